@@ -97,7 +97,8 @@ typedef struct sqlkeep_summary {
     /* 1 where something is left of the text that is no statement, else 0; and the byte, from 0, where that begins. */
     uint64_t has_fault;
     uint64_t fault_at;
-    /* How many refused COMMITs have an empty account, since memory was refused for it; 0 where no accounts are asked for. */
+    /* How many refused COMMITs have an empty account, or statements no lines of what is pending, since memory was refused for
+       it; 0 where no accounts are asked for. */
     uint64_t untold;
 } sqlkeep_summary;
 
@@ -337,7 +338,12 @@ enum sqlkeep_entry_kind {
     SQLKEEP_ENTRY_STATEMENT = 3,
     SQLKEEP_ENTRY_STATEMENT_END = 4,
     /* A constraint and a row that the refusal is about. Its items are that row, and of a key the other row with the same one. */
-    SQLKEEP_ENTRY_VIOLATION = 5
+    SQLKEEP_ENTRY_VIOLATION = 5,
+    /* A trigger is skipped, since its WHEN is false or unknown. It has no items. */
+    SQLKEEP_ENTRY_SKIPPED = 6,
+    /* Two foreign keys set a column of a row to different values: the constraint is the later of them, the item is the row.
+       sqlkeep_disagreement tells the earlier one, the column and both values. */
+    SQLKEEP_ENTRY_DISAGREEMENT = 7
 };
 
 /* An entry of an account. What its kind doesn't have is 0. */
@@ -348,9 +354,11 @@ typedef struct sqlkeep_entry_shown {
     uint32_t statement;
     /* The place of the constraint that is violated. */
     uint32_t constraint;
-    /* 1 where the trigger runs for a row that was there before, and after the change; otherwise 0. */
+    /* 1 where the trigger runs, or is skipped, for a row that was there before, and after the change; otherwise 0. */
     uint32_t has_old;
     uint32_t has_new;
+    /* 1 where the WHEN of a trigger that is skipped is unknown, 0 where it is false. */
+    uint32_t is_unknown;
     /* How many items it has. */
     uint64_t items;
     /* The number of the row that violates the constraint. */
@@ -370,6 +378,16 @@ typedef struct sqlkeep_item {
     /* The number of the row. */
     uint64_t row;
 } sqlkeep_item;
+
+/* How two foreign keys disagree about a row. */
+typedef struct sqlkeep_disagreement_shown {
+    /* The place of the foreign key that was created first; and the place of the column in the table of the row. */
+    uint32_t earlier;
+    uint32_t column;
+    /* What that foreign key sets the column to, and what the constraint of the entry sets it to. */
+    sqlkeep_cell earlier_value;
+    sqlkeep_cell value;
+} sqlkeep_disagreement_shown;
 
 /* The side of a change: the row before it, and after it. */
 enum sqlkeep_side { SQLKEEP_OLD = 0, SQLKEEP_NEW = 1 };
@@ -643,7 +661,7 @@ uint32_t sqlkeep_message(sqlkeep *handle, size_t from, uint8_t *buffer, size_t s
 /* How many entries there are. SQLKEEP_CLOSED. */
 uint32_t sqlkeep_entries(sqlkeep *handle, size_t *count);
 
-/* An entry; and the name of the trigger that runs by it, copied as sqlkeep_transcript does. */
+/* An entry; and the name of the trigger that runs or is skipped by it, copied as sqlkeep_transcript does. */
 uint32_t sqlkeep_entry(sqlkeep *handle, size_t at, sqlkeep_entry_shown *entry);
 uint32_t sqlkeep_entry_trigger(sqlkeep *handle, size_t at, size_t from, uint8_t *buffer, size_t size, size_t *copied);
 
@@ -652,9 +670,14 @@ uint32_t sqlkeep_entry_item(sqlkeep *handle, size_t at, size_t item, sqlkeep_ite
 uint32_t sqlkeep_entry_value(sqlkeep *handle, size_t at, size_t item, uint32_t side, size_t column, sqlkeep_cell *value);
 uint32_t sqlkeep_entry_text(sqlkeep *handle, size_t at, size_t item, uint32_t side, size_t column, size_t from, uint8_t *buffer, size_t size, size_t *copied);
 
-/* A value of OLD or NEW of the trigger that runs by an entry; and the bytes of a text. */
+/* A value of OLD or NEW of the trigger that runs or is skipped by an entry; and the bytes of a text. */
 uint32_t sqlkeep_seen_value(sqlkeep *handle, size_t at, uint32_t side, size_t column, sqlkeep_cell *value);
 uint32_t sqlkeep_seen_text(sqlkeep *handle, size_t at, uint32_t side, size_t column, size_t from, uint8_t *buffer, size_t size, size_t *copied);
+
+/* How two foreign keys disagree by an entry; and the bytes of a text to which the earlier one sets the column, on side 0, or the
+   later one, on side 1. */
+uint32_t sqlkeep_disagreement(sqlkeep *handle, size_t at, sqlkeep_disagreement_shown *shown);
+uint32_t sqlkeep_disagreement_text(sqlkeep *handle, size_t at, uint32_t side, size_t from, uint8_t *buffer, size_t size, size_t *copied);
 
 /* ---- transactions */
 
@@ -865,6 +888,12 @@ static inline uint32_t sqlkeep_tested_seen_value(sqlkeep *handle, size_t at, uin
 static inline uint32_t sqlkeep_tested_seen_text(sqlkeep *handle, size_t at, uint32_t side, size_t column, size_t from, uint8_t *buffer, size_t size, size_t *copied) {
     return handle == NULL ? (uint32_t)SQLKEEP_NO_HANDLE : sqlkeep_seen_text(handle, at, side, column, from, buffer, size, copied);
 }
+static inline uint32_t sqlkeep_tested_disagreement(sqlkeep *handle, size_t at, sqlkeep_disagreement_shown *shown) {
+    return handle == NULL ? (uint32_t)SQLKEEP_NO_HANDLE : sqlkeep_disagreement(handle, at, shown);
+}
+static inline uint32_t sqlkeep_tested_disagreement_text(sqlkeep *handle, size_t at, uint32_t side, size_t from, uint8_t *buffer, size_t size, size_t *copied) {
+    return handle == NULL ? (uint32_t)SQLKEEP_NO_HANDLE : sqlkeep_disagreement_text(handle, at, side, from, buffer, size, copied);
+}
 static inline uint32_t sqlkeep_tested_row(sqlkeep *handle, uint64_t number, sqlkeep_stored_row *row) {
     return handle == NULL ? (uint32_t)SQLKEEP_NO_HANDLE : sqlkeep_row(handle, number, row);
 }
@@ -972,6 +1001,8 @@ static inline uint32_t sqlkeep_tested_violation_text(sqlkeep *handle, size_t at,
 #define sqlkeep_entry_text sqlkeep_tested_entry_text
 #define sqlkeep_seen_value sqlkeep_tested_seen_value
 #define sqlkeep_seen_text sqlkeep_tested_seen_text
+#define sqlkeep_disagreement sqlkeep_tested_disagreement
+#define sqlkeep_disagreement_text sqlkeep_tested_disagreement_text
 #define sqlkeep_row sqlkeep_tested_row
 #define sqlkeep_row_value sqlkeep_tested_row_value
 #define sqlkeep_row_text sqlkeep_tested_row_text

@@ -4,12 +4,13 @@
  * @typedef {null | number | bigint | string} Value
  * @typedef {{kind: "insert" | "delete" | "update", table: string, row: number, before: Value[] | null, after: Value[] | null}} Change
  * @typedef {{kind: "action", constraint: string, action: string, table: string, row: number}} Action
- * @typedef {{kind: "statement", place: number, entries: Entry[]}} BodyStatement
+ * @typedef {{kind: "statement", place: number, entries: Entry[], changesNothing?: true}} BodyStatement
  * @typedef {{kind: "trigger", trigger: string, old: Value[] | null, new: Value[] | null, saw: Change[], statements: BodyStatement[]}} Run
+ * @typedef {{kind: "skipped", trigger: string, old: Value[] | null, new: Value[] | null, when: "false" | "unknown"}} Skipped
  * @typedef {{kind: "violation", constraint: string, table: string, row: number, values: Value[], reason: string, column?: string,
- *     otherTable?: string, otherRow?: number, other?: Value[]}} Violation
+ *     otherTable?: string, otherRow?: number, other?: Value[], otherConstraint?: string, value?: Value, otherValue?: Value}} Violation
  * @typedef {{kind: "note", text: string}} Note
- * @typedef {Change | Action | Run | Violation | Note} Entry
+ * @typedef {Change | Action | Run | Skipped | Violation | Note} Entry
  */
 
 const ACTION = /^(\w+) (CASCADE|SET NULL|SET DEFAULT) on (\w+) row (\d+)$/;
@@ -25,7 +26,9 @@ const REASONS = [
   ["absent", / refers to (\w+) (?=\()/y],
   ["some nulls", / has some nulls in its key$/y],
 ];
-const REFERS = { ", which isn't there": "absent", ", which RESTRICT protects": "restrict", ", and another foreign key sets a column otherwise": "conflict" };
+const REFERS = { ", which isn't there": "absent", ", which RESTRICT protects": "restrict" };
+const CONFLICT = /, and (\w+) sets (\w+) to /y;
+const WHERE = /, where \w+ sets it to /y;
 
 // Words of the program's own at the end of a line, with a quote in them.
 const ABSENT = "isn't there";
@@ -84,9 +87,9 @@ function entryOf(line) {
   if (line.startsWith("saw ")) {
     return { kind: "saw", change: changeOf(line.slice(4)) ?? { kind: "note", text: line } };
   }
-  const statement = /^statement (\d+)$/.exec(line);
+  const statement = /^statement (\d+)( changes nothing)?$/.exec(line);
   if (statement) {
-    return { kind: "statement", place: Number(statement[1]), entries: [] };
+    return { kind: "statement", place: Number(statement[1]), entries: [], ...(statement[2] ? { changesNothing: true } : {}) };
   }
   return changeOf(line) ?? actionOf(line) ?? triggerOf(line) ?? violationOf(line) ?? { kind: "note", text: line };
 }
@@ -108,7 +111,7 @@ function actionOf(line) {
 }
 
 function triggerOf(line) {
-  const found = /^trigger (\w+)(?= (?:OLD|NEW) \(|$)/.exec(line);
+  const found = /^trigger (\w+)(?= (?:OLD|NEW) \(| skipped: |$)/.exec(line);
   if (!found) {
     return null;
   }
@@ -120,7 +123,8 @@ function triggerOf(line) {
   if (line.startsWith(" NEW ", at)) {
     ({ values: entry.new, end: at } = valuesAt(line, at + 5));
   }
-  return entry;
+  const skipped = /^ skipped: WHEN is (false|unknown)$/.exec(line.slice(at));
+  return skipped ? { kind: "skipped", trigger: entry.trigger, old: entry.old, new: entry.new, when: skipped[1] } : entry;
 }
 
 function violationOf(line) {
@@ -152,9 +156,30 @@ function detailsOf(reason, found, line, at) {
   }
   if (reason === "absent") {
     const { values, end } = valuesAt(line, at);
-    return { reason: REFERS[line.slice(end)] ?? "absent", otherTable: found[1], other: values };
+    const conflict = conflictAt(line, end);
+    return { reason: conflict ? "conflict" : REFERS[line.slice(end)] ?? "absent", otherTable: found[1], other: values, ...conflict };
   }
   return {};
+}
+
+// Which earlier foreign key sets which column to another value; null where none does.
+function conflictAt(line, at) {
+  CONFLICT.lastIndex = at;
+  const found = CONFLICT.exec(line);
+  if (!found) {
+    return null;
+  }
+  const first = literalAt(line, CONFLICT.lastIndex);
+  WHERE.lastIndex = first.end;
+  WHERE.exec(line);
+  return { otherConstraint: found[1], column: found[2], otherValue: first.value, value: literalAt(line, WHERE.lastIndex).value };
+}
+
+// The value at this place, and where it ends.
+function literalAt(line, at) {
+  VALUE.lastIndex = at;
+  const found = VALUE.exec(line);
+  return { value: valueOf(found[0]), end: at + found[0].length };
 }
 
 // The values between the parenthesis at this place and the one that closes them.

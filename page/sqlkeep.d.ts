@@ -87,7 +87,24 @@ export interface TriggerRun {
   old: Value[] | null;
   new: Value[] | null;
   saw: Change[];
-  statements: { kind: "statement"; place: number; entries: Entry[] }[];
+  statements: BodyStatement[];
+}
+
+/** A statement of a trigger's body. One that is refused at once has no entries either, and no `changesNothing`. */
+export interface BodyStatement {
+  kind: "statement";
+  place: number;
+  entries: Entry[];
+  changesNothing?: true;
+}
+
+/** A trigger whose body didn't run, since its WHEN was false or unknown. */
+export interface TriggerSkipped {
+  kind: "skipped";
+  trigger: string;
+  old: Value[] | null;
+  new: Value[] | null;
+  when: "false" | "unknown";
 }
 
 /** A row that a refusal is about, and why. */
@@ -98,13 +115,17 @@ export interface ViolationEntry {
   row: number;
   values: Value[];
   reason: "condition" | "null" | "key" | "null key" | "absent" | "some nulls" | "restrict" | "conflict";
-  /** The column that is null. */
+  /** The column that is null, or that two foreign keys set to different values. */
   column?: string;
   /** The other row with the same key, and its values. */
   otherRow?: number;
   /** The table that the row refers to; `other` has the key. */
   otherTable?: string;
   other?: Value[];
+  /** Of two foreign keys that disagree: the earlier one, what it sets the column to, and what the constraint sets it to. */
+  otherConstraint?: string;
+  otherValue?: Value;
+  value?: Value;
 }
 
 /** A line that tells the name that a refusal is about. */
@@ -113,7 +134,7 @@ export interface Note {
   text: string;
 }
 
-export type Entry = Change | Action | TriggerRun | ViolationEntry | Note;
+export type Entry = Change | Action | TriggerRun | TriggerSkipped | ViolationEntry | Note;
 
 export interface Column {
   name: string;

@@ -112,6 +112,61 @@ static int transition(sqlkeep *session) {
     return 0;
 }
 
+/* update P; G: C row (1, 'a') refers to P ('a'), and F sets X to 'none', where G sets it to 'cd'. P is the table 4, and C 5. */
+static int disagreement(sqlkeep *session) {
+    sqlkeep_outcome outcome;
+    sqlkeep_entry_shown entry;
+    sqlkeep_item item;
+    sqlkeep_disagreement_shown how;
+    uint8_t bytes[20];
+    size_t count = 0;
+    WANT(executed(session,
+        "CREATE TABLE p (k VARCHAR(9) UNIQUE, l VARCHAR(9) UNIQUE);"
+        "CREATE TABLE c (n INT, x VARCHAR(9) DEFAULT 'none' CONSTRAINT f REFERENCES p (k) ON UPDATE SET DEFAULT ON DELETE SET NULL"
+        " CONSTRAINT g REFERENCES p (l) ON UPDATE CASCADE ON DELETE SET DEFAULT);"
+        "INSERT INTO p VALUES ('a', 'a'); INSERT INTO c VALUES (1, 'a'); COMMIT;", &outcome) == SQLKEEP_DONE);
+    WANT(executed(session, "UPDATE p SET k = 'b', l = 'cd';", &outcome) == SQLKEEP_REFUSED && outcome.cause == SQLKEEP_CAUSE_ACTION_CONFLICT);
+    WANT(sqlkeep_entries(session, &count) == SQLKEEP_OK && count == 2);
+    WANT(sqlkeep_entry(session, 1, &entry) == SQLKEEP_OK && entry.kind == SQLKEEP_ENTRY_DISAGREEMENT && entry.items == 1 && entry.is_unknown == 0);
+    WANT(entry.constraint == outcome.constraint && entry.row == outcome.row);
+    WANT(sqlkeep_entry_item(session, 1, 0, &item) == SQLKEEP_OK && item.table == 5 && item.row == entry.row && item.has_new == 1);
+    WANT(is_integer(session, 1, 0, SQLKEEP_NEW, 0, 1) && is_text(session, 1, 0, SQLKEEP_NEW, 1, "a"));
+    WANT(sqlkeep_disagreement(session, 1, &how) == SQLKEEP_OK && how.earlier == entry.constraint - 1 && how.column == 1);
+    WANT(how.earlier_value.kind == SQLKEEP_TEXT && how.earlier_value.length == 4 && how.value.kind == SQLKEEP_TEXT && how.value.length == 2);
+    WANT(sqlkeep_disagreement_text(session, 1, SQLKEEP_OLD, 0, bytes, sizeof bytes, &count) == SQLKEEP_OK && count == 4 && memcmp(bytes, "none", 4) == 0);
+    WANT(sqlkeep_disagreement_text(session, 1, SQLKEEP_NEW, 1, bytes, sizeof bytes, &count) == SQLKEEP_OK && count == 1 && bytes[0] == 'd');
+    WANT(sqlkeep_disagreement_text(session, 1, 2, 0, bytes, sizeof bytes, &count) == SQLKEEP_NOTHING);
+    WANT(sqlkeep_disagreement(session, 0, &how) == SQLKEEP_NOTHING && sqlkeep_disagreement(session, 2, &how) == SQLKEEP_NOTHING);
+    WANT(executed(session, "DELETE FROM p;", &outcome) == SQLKEEP_REFUSED && sqlkeep_disagreement(session, 1, &how) == SQLKEEP_OK);
+    WANT(how.earlier_value.kind == SQLKEEP_NULL && how.value.kind == SQLKEEP_TEXT && how.value.length == 4);
+    return 0;
+}
+
+/* trigger HOLD skipped: WHEN is unknown; insert T; trigger TAKE NEW (1, 'x') skipped: WHEN is false. */
+static int skipped(sqlkeep *session) {
+    sqlkeep_outcome outcome;
+    sqlkeep_entry_shown entry;
+    sqlkeep_item item;
+    sqlkeep_cell cell;
+    uint8_t bytes[20];
+    size_t count = 0;
+    WANT(executed(session,
+        "CREATE TABLE t (a INT, b VARCHAR(9)); CREATE TRIGGER hold BEFORE INSERT ON t WHEN (NULL > 0) SIGNAL 'no';"
+        "CREATE TRIGGER take AFTER INSERT ON t REFERENCING NEW AS n FOR EACH ROW WHEN (n.a > 1) SIGNAL 'no';", &outcome) == SQLKEEP_DONE);
+    WANT(executed(session, "INSERT INTO t VALUES (1, 'x');", &outcome) == SQLKEEP_CHANGED);
+    WANT(sqlkeep_entries(session, &count) == SQLKEEP_OK && count == 3);
+    WANT(sqlkeep_entry(session, 0, &entry) == SQLKEEP_OK && entry.kind == SQLKEEP_ENTRY_SKIPPED && entry.is_unknown == 1);
+    WANT(entry.has_old == 0 && entry.has_new == 0 && entry.items == 0);
+    WANT(sqlkeep_entry_trigger(session, 0, 0, bytes, sizeof bytes, &count) == SQLKEEP_OK && count == 4 && memcmp(bytes, "HOLD", 4) == 0);
+    WANT(sqlkeep_entry(session, 2, &entry) == SQLKEEP_OK && entry.kind == SQLKEEP_ENTRY_SKIPPED && entry.is_unknown == 0);
+    WANT(entry.has_old == 0 && entry.has_new == 1 && entry.items == 0 && sqlkeep_entry_item(session, 2, 0, &item) == SQLKEEP_NOTHING);
+    WANT(sqlkeep_seen_value(session, 2, SQLKEEP_NEW, 0, &cell) == SQLKEEP_OK && cell.kind == SQLKEEP_INTEGER && cell.integer == 1);
+    WANT(sqlkeep_seen_text(session, 2, SQLKEEP_NEW, 1, 0, bytes, sizeof bytes, &count) == SQLKEEP_OK && count == 1 && bytes[0] == 'x');
+    WANT(sqlkeep_seen_value(session, 2, SQLKEEP_OLD, 0, &cell) == SQLKEEP_NOTHING && sqlkeep_seen_value(session, 0, SQLKEEP_NEW, 0, &cell) == SQLKEEP_NOTHING);
+    WANT(sqlkeep_rollback(session) == SQLKEEP_OK);
+    return 0;
+}
+
 /* Each function with an empty handle, and with none. */
 static int closed(void) {
     sqlkeep empty = SQLKEEP_EMPTY;
@@ -122,12 +177,14 @@ static int closed(void) {
         sqlkeep_entry_shown entry;
         sqlkeep_item item;
         sqlkeep_cell cell;
+        sqlkeep_disagreement_shown how;
         uint8_t bytes[1];
         size_t count;
         WANT(sqlkeep_entries(it, &count) == want && sqlkeep_entry(it, 0, &entry) == want && sqlkeep_entry_item(it, 0, 0, &item) == want);
         WANT(sqlkeep_entry_trigger(it, 0, 0, bytes, 1, &count) == want && sqlkeep_entry_value(it, 0, 0, 0, 0, &cell) == want);
         WANT(sqlkeep_entry_text(it, 0, 0, 0, 0, 0, bytes, 1, &count) == want && sqlkeep_seen_value(it, 0, 0, 0, &cell) == want);
         WANT(sqlkeep_seen_text(it, 0, 0, 0, 0, bytes, 1, &count) == want);
+        WANT(sqlkeep_disagreement(it, 0, &how) == want && sqlkeep_disagreement_text(it, 0, 0, 0, bytes, 1, &count) == want);
     }
     return 0;
 }
@@ -139,6 +196,8 @@ int main(void) {
     WANT(executed(&session, SCHEMA, &outcome) == SQLKEEP_DONE && sqlkeep_explain(&session, 1) == SQLKEEP_OK);
     int failed = cascade(&session);
     failed = failed ? failed : violation(&session);
+    failed = failed ? failed : disagreement(&session);
+    failed = failed ? failed : skipped(&session);
     failed = failed ? failed : transition(&session);
     WANT(sqlkeep_close(&session) == SQLKEEP_OK);
     return failed ? failed : closed();

@@ -18,9 +18,11 @@ import sys
 import tempfile
 from concurrent.futures import ThreadPoolExecutor
 
+import pending
 import preload
 import refused_memory
 import run
+from made.scripts import Script
 
 HERE = os.path.dirname(os.path.abspath(__file__))
 EXAMPLES = os.path.join(HERE, '..', 'examples')
@@ -120,11 +122,12 @@ def scripts(what, program, every=1, words=()):
 
 
 def accounts(what, program, words=()):
-    """Whether a program writes the accounts of the examples as `sqlkeep` does."""
+    """Whether a program writes the accounts of the examples as `sqlkeep` does; statement by statement without what came and went of what is pending."""
     for name in sorted({file.split('.')[0] for file in run.files('../examples')}):
         want = run.read('../examples', name + '.account')
         if want is not None:
             text = run.stored('../examples', name + '.sql')
+            want = pending.without(want) if '--statements' in words else want
             yield '%s, with accounts: %s' % (what, name), run.judge(program, text, want, b'', None, ['--explain', *words])
 
 
@@ -195,6 +198,34 @@ def places(room):
         yield 'places of statements: ' + name, told([program], input=text)
 
 
+def follows(program, lister, seed):
+    """Whether what is pending after each statement of a random script, followed by the lines of its accounts, is what the library says."""
+    script = Script(seed)
+    limits = dict(zip(script.words[::2], script.words[1::2]))
+    given = [limits.get('--depth', '16'), limits.get('--changes', '65536')]
+    told = run.groups(run.run(program, script.text().encode(), ['--explain', *script.words])[0])[0]
+    listed = [line.split()[1:] for line in run.run(lister, script.text().encode(), given)[0].splitlines()]
+    want = [set(zip(words[::2], map(int, words[1::2]))) for words in listed]
+    got = pending.followed([one.text.encode() for one in script.statements], told)
+    place = next((at for at, pair in enumerate(zip(want, got), 1) if pair[0] != pair[1]), None)
+    why = ['%d statements, and %d are listed' % (len(got), len(want))] if len(got) != len(want) else []
+    return why + (['after statement %d: wanted %r, followed %r' % (place, want[place - 1], got[place - 1])] if place else []), sum(map(bool, want))
+
+
+def pending_lines(room):
+    """Whether the lines of accounts that tell what came and what went lead to what is pending, in 200 random scripts."""
+    program, why = room.c_program(example('c', 'script.c'), 'script')
+    lister, also = room.c_program(os.path.join(HERE, 'c_pending.c'), 'c_pending')
+    yield 'what is pending: the programs are built', why + also
+    if why + also:
+        return
+    with ThreadPoolExecutor(os.cpu_count() or 1) as pool:
+        found = list(pool.map(lambda seed: follows(program, lister, seed), range(1, 201)))
+    yield from (('what is pending: seed %d' % seed, why) for seed, (why, _) in enumerate(found, 1))
+    often = sum(count for _, count in found)
+    yield 'what is pending: something often is', [] if often > 200 else ['after %d statements' % often]
+
+
 def dumps(room):
     """Whether the dump after each script makes its database again."""
     program, why = room.c_program(os.path.join(HERE, 'c_dump.c'), 'c_dump')
@@ -223,6 +254,7 @@ def tried(room):
     yield from firsts(room)
     yield from places(room)
     yield from dumps(room)
+    yield from pending_lines(room)
     for what, name in (('sessions side by side', 'c_sessions'), ('templates and the catalogue', 'c_catalogue'), ('accounts entry by entry', 'c_accounts'),
                        ('rows many at a time', 'c_rows'), ('places, messages, results and violations', 'c_results')):
         program, why = room.c_program(os.path.join(HERE, name + '.c'), name)

@@ -89,6 +89,13 @@ class Edit:
         self.function = enclosing(source, self.spans[0][0]) if self.file.endswith(".rt") else None
         self.round = int(next((text for key, _, text in lines if key == "round"), "1"))
 
+    def path(self):
+        """What a check of this edit alone is asked for: the function; the module for a method, which is reported under its type or its trait;
+        and nothing, which is the whole crate, outside of every function."""
+        if self.function is None or not self.module():
+            return None
+        return "::".join(self.module() + ([] if "::" in self.function else [self.function]))
+
     def module(self):
         """The path of the file's module."""
         parts = self.file[len("src/") : -len(".rt")].split("/")
@@ -342,7 +349,7 @@ def tried(crate, copy, edits, words=("rt", "check", "--jobs", "1"), until=None):
         shutil.copy2(os.path.join(ROOT, "crates", crate, file), os.path.join(copy, file))
     if until is not None and time.monotonic() >= until:
         return None
-    if status != 1 or "logic=not-proved" not in output:
+    if status != 1 or not re.search(r"^(logic=not-proved|only=\d+ proved=\d+)", output, re.M):
         return edits, output, used
     return [edit for edit in edits if not refused(crate, edit, output)], output, used
 
@@ -355,8 +362,8 @@ def tried_apart(crate, edits, sandbox):
 
 
 def tried_in_turn(crate, rounds, sandbox, until):
-    """What each round of a crate came to over the libraries that `rt ci` left, as far as it was tried until that time. The first check
-    proves the crate but for the edits; the others go on from it."""
+    """What each round of a crate came to over the libraries that `rt ci` left, as far as it was tried until that time. A check is asked
+    for the edited functions and those that they call; what one of them proved serves the next."""
     said, rlibs = {}, libraries.left_by_gate(crate)
     if rlibs is None:
         return said
@@ -365,7 +372,9 @@ def tried_in_turn(crate, rounds, sandbox, until):
     os.makedirs(os.path.join(copy, "out", "incremental"))
     words = [*libraries.words("check", crate, rlibs), "--jobs", "1"]
     for number, edits in enumerate(rounds):
-        one = tried(crate, copy, edits, words, until) if time.monotonic() < until else None
+        paths = {edit.path() for edit in edits}
+        only = [] if None in paths else [word for path in sorted(paths) for word in ("--only", path)]
+        one = tried(crate, copy, edits, [*words, *only], until) if time.monotonic() < until else None
         if one is None:
             break
         said[number] = one
@@ -445,9 +454,11 @@ def try_some(rounds, jobs, keep, minutes):
     with tempfile.TemporaryDirectory(prefix="edits-", dir=sandboxes.place()) as sandbox, ThreadPoolExecutor(jobs) as pool:
         begun = {pool.submit(tried_in_turn, crate, rounds[crate], sandbox, until): crate for crate in first}
         for done in as_completed(begun):
-            crate = begun[done]
-            refused_now, kept_now = report(crate, rounds[crate], done.result(), keep)
+            crate, said = begun[done], done.result()
+            refused_now, kept_now = report(crate, rounds[crate], said, keep)
             passed, failed = passed + refused_now, failed + kept_now
+            if len(said) == len(rounds[crate]) and not kept_now:
+                remember([crate])
     skipped = sum(len(one) for each in rounds.values() for one in each) - passed - failed
     return passed, failed, skipped
 

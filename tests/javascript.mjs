@@ -160,6 +160,27 @@ const tests = {
         { kind: "statement", place: 1, entries: [{ kind: "insert", table: "REMOVED", row: 3, before: null, after: ["One\nTwo"] }] }] },
     ]);
   },
+  skipped_triggers_as_objects() {
+    const session = engine.open({ explain: true });
+    session.execute("CREATE TABLE t (a INT, b VARCHAR(9)); CREATE TABLE u (a INT);");
+    session.execute("CREATE TRIGGER hold BEFORE INSERT ON t WHEN (NULL > 0) SIGNAL 'no'; CREATE TRIGGER take AFTER INSERT ON t REFERENCING NEW AS n FOR EACH ROW WHEN (n.a > 1) BEGIN ATOMIC DELETE FROM u; INSERT INTO u VALUES (n.a); END;");
+    session.execute("INSERT INTO t VALUES (1, 'x skipped: '), (2, NULL);");
+    assert.deepEqual(session.account, [
+      { kind: "skipped", trigger: "HOLD", old: null, new: null, when: "unknown" },
+      { kind: "insert", table: "T", row: 1, before: null, after: [1, "x skipped: "] },
+      { kind: "insert", table: "T", row: 2, before: null, after: [2, null] },
+      { kind: "skipped", trigger: "TAKE", old: null, new: [1, "x skipped: "], when: "false" },
+      { kind: "trigger", trigger: "TAKE", old: null, new: [2, null], saw: [], statements: [
+        { kind: "statement", place: 1, entries: [], changesNothing: true },
+        { kind: "statement", place: 2, entries: [{ kind: "insert", table: "U", row: 3, before: null, after: [2] }] }] },
+    ]);
+  },
+  foreign_keys_that_disagree_as_objects() {
+    const session = engine.open({ explain: true });
+    session.execute("CREATE TABLE p (k INT UNIQUE, l INT UNIQUE); CREATE TABLE c (x INT CONSTRAINT f REFERENCES p (k) ON UPDATE SET NULL CONSTRAINT g REFERENCES p (l) ON UPDATE CASCADE); INSERT INTO p VALUES (5, 5); INSERT INTO c VALUES (5);");
+    assert.throws(() => session.execute("UPDATE p SET k = 6, l = 7;"), { cause: 14 });
+    assert.deepEqual(session.account.at(-1), { kind: "violation", constraint: "G", table: "C", row: 2, values: [5], reason: "conflict", otherTable: "P", other: [5], otherConstraint: "F", column: "X", otherValue: null, value: 7 });
+  },
   violations_as_objects() {
     const session = engine.open({ explain: true });
     session.execute(SCHEMA);

@@ -23,8 +23,7 @@ ITEMS = {'row_variable': 'row variable', 'referencing_name': 'REFERENCING name'}
 FAULTS = {'unknown': "isn't there", 'in_use': 'is there already', 'twice': 'comes twice'}
 REFERENCES = {
     'missing_key': "which isn't there",
-    'protected_key': 'which RESTRICT protects',
-    'action_conflict': 'and another foreign key sets a column otherwise'}
+    'protected_key': 'which RESTRICT protects'}
 
 
 # ---- the schema: the words of JSON Schema that it uses
@@ -99,6 +98,10 @@ def reason_text(entry):
     because = entry['because']
     if because in REFERENCES:
         return ' refers to %s%s, %s' % (entry['referenced'], listed('', entry['key']), REFERENCES[because])
+    if because == 'action_conflict':
+        sides = [value_text(entry[name]) for name in ('other_value', 'value')]
+        return ' refers to %s%s, and %s sets %s to %s, where %s sets it to %s' % (
+            entry['referenced'], listed('', entry['key']), entry['other_constraint'], entry['column'], sides[0], entry['constraint'], sides[1])
     if because == 'equal_key':
         return ' has the key of row %d%s' % (entry['other_row'], listed('', entry['other']))
     return {
@@ -108,6 +111,10 @@ def reason_text(entry):
         'null': ' has NULL in %s' % entry.get('column')}[because]
 
 
+def asked_text(entry):
+    return 'trigger ' + entry['trigger'] + listed(' OLD', entry.get('old')) + listed(' NEW', entry.get('new'))
+
+
 def entry_lines(entry):
     """The lines of an entry, without the indentation of what is around it."""
     if entry['entry'] == 'changes':
@@ -115,10 +122,12 @@ def entry_lines(entry):
     if entry['entry'] == 'actions':
         return ('%(constraint)s %(action)s on %(table)s row %(row)d' % action for action in entry['actions'])
     if entry['entry'] == 'trigger':
-        line = 'trigger ' + entry['trigger'] + listed(' OLD', entry.get('old')) + listed(' NEW', entry.get('new'))
-        return [line, *('  saw ' + change_text(change) for change in entry['saw'])]
+        return [asked_text(entry), *('  saw ' + change_text(change) for change in entry['saw'])]
+    if entry['entry'] == 'skipped':
+        return [asked_text(entry) + ' skipped: WHEN is ' + entry['when']]
     if entry['entry'] == 'statement':
-        return ['statement %d' % entry['number'], *('  ' + line for line in account_lines(entry['account']))]
+        line = 'statement %d' % entry['number'] + (' changes nothing' if entry.get('changes_nothing') else '')
+        return [line, *('  ' + line for line in account_lines(entry['account']))]
     row = '%(constraint)s: %(table)s row %(row)d' % entry
     return [row + listed('', entry['values']) + reason_text(entry)]
 
@@ -148,12 +157,15 @@ def outcome_lines(outcome):
         yield '%(number)d refused %(cause)d %(name)s' % outcome + details(outcome)
     elif kind == 'rows':
         yield '%d rows %d' % (outcome['number'], len(outcome['rows']))
+        yield from ['  columns ' + ', '.join(outcome['columns'])] if 'columns' in outcome else []
         yield from ('| ' + row_text(row) for row in outcome['rows'])
     else:
         yield '%d ok' % outcome['number'] + (' %d' % outcome['count'] if kind == 'changed' else '')
     yield from ('  ' + line for line in account_lines(outcome.get('account', [])))
     yield from [about_text(outcome['about'])] if 'about' in outcome else []
     yield from ['  ' + outcome['reason']] if 'reason' in outcome else []
+    yield from ('  now pending ' + line for entry in outcome.get('now_pending', []) for line in entry_lines(entry))
+    yield from ('  no longer pending %(constraint)s: %(table)s row %(row)d' % gone for gone in outcome.get('no_longer_pending', []))
 
 
 def fault_lines(fault, explain):

@@ -19,20 +19,22 @@ const REASONS = {
   absent: (entry) => `refers to ${entry.otherTable} ${row(entry.other)}, which isn't there`,
   "some nulls": () => "has some nulls in its key",
   restrict: (entry) => `refers to ${entry.otherTable} ${row(entry.other)}, which RESTRICT protects`,
-  conflict: (entry) => `refers to ${entry.otherTable} ${row(entry.other)}, and another foreign key sets a column otherwise`,
+  conflict: (entry) => `refers to ${entry.otherTable} ${row(entry.other)}, and ${entry.otherConstraint} sets ${entry.column} to ${writtenValue(entry.otherValue)}, where ${entry.constraint} sets it to ${writtenValue(entry.value)}`,
 };
 const change = ({ kind, table, row: number, before, after }) => `${kind} ${table} row ${number} ${row(before ?? after)}${before && after ? ` to ${row(after)}` : ""}`;
+
+const seen = (entry) => `${entry.old ? ` OLD ${row(entry.old)}` : ""}${entry.new ? ` NEW ${row(entry.new)}` : ""}`;
 
 // The lines of an account from its objects, by the form that docs/language/accounts.md gives.
 function written(entries, indent) {
   return entries.flatMap((entry) => {
     const deeper = `${indent}  `;
     if (entry.kind === "trigger") {
-      const seen = `${entry.old ? ` OLD ${row(entry.old)}` : ""}${entry.new ? ` NEW ${row(entry.new)}` : ""}`;
-      const statements = entry.statements.flatMap((each) => [`${indent}statement ${each.place}`, ...written(each.entries, deeper)]);
-      return [`${indent}trigger ${entry.trigger}${seen}`, ...entry.saw.map((each) => `${deeper}saw ${change(each)}`), ...statements];
+      const statements = entry.statements.flatMap((each) => [`${indent}statement ${each.place}${each.changesNothing ? " changes nothing" : ""}`, ...written(each.entries, deeper)]);
+      return [`${indent}trigger ${entry.trigger}${seen(entry)}`, ...entry.saw.map((each) => `${deeper}saw ${change(each)}`), ...statements];
     }
     const line = {
+      skipped: () => `trigger ${entry.trigger}${seen(entry)} skipped: WHEN is ${entry.when}`,
       action: () => `${entry.constraint} ${entry.action} on ${entry.table} row ${entry.row}`,
       violation: () => `${entry.constraint}: ${entry.table} row ${entry.row} ${row(entry.values)} ${REASONS[entry.reason](entry)}`,
       note: () => entry.text,

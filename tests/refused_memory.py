@@ -10,7 +10,8 @@ for memory in it, and each time another request is refused. Each run has to be o
   same     the run is as without refusal: the memory was for speed alone
   refused  one statement answers 22, and all else is the transcript of the script without that statement, which is run too. It is never COMMIT or ROLLBACK, nor
            over the index store ROLLBACK TO, nor a statement that would be answered 4, 5 or 6
-  untold   with --explain, the run is as without refusal, but a COMMIT that is refused has no account
+  untold   with --explain, the run is as without refusal, but a COMMIT that is refused has no account, or the lines of what is pending are
+           left out once: what came and what went then is told with the next ones
 
 Words with which no script is run are tried in the same way. 100 random scripts are run too, with ten of their requests refused. Without --all the plain one
 has five of their requests refused, and 60 of each other script, not all. With --all there are, besides: some scripts more; all these with each statement
@@ -24,6 +25,7 @@ import re
 import shlex
 
 import cut
+import pending
 import preload
 import programs
 import run
@@ -93,6 +95,15 @@ def untold(whole, out):
     return False
 
 
+def unlisted(trial, out):
+    """Whether a transcript is another one in which the lines of what is pending are left out once, and the next ones tell what they told."""
+    if pending.without(trial.whole[0]) != pending.without(out):
+        return False
+    want, got = (pending.followed(trial.statements, run.groups(text)[0]) for text in (trial.whole[0], out))
+    unlike = [place for place, pair in enumerate(zip(want, got)) if pair[0] != pair[1]]
+    return len(unlike) == 1 and got[unlike[0]] == (got[unlike[0] - 1] if unlike[0] > 0 else set())
+
+
 def judge(trial, got, is_one):
     """What became of a run, in one word, and why it isn't as it should be."""
     if got == ENDED:
@@ -100,7 +111,7 @@ def judge(trial, got, is_one):
     if got == trial.whole:
         return 'same', []
     out, status, errors = got
-    if '--explain' in trial.words and (status, errors) == trial.whole[1:] and untold(trial.whole[0], out):
+    if '--explain' in trial.words and (status, errors) == trial.whole[1:] and (untold(trial.whole[0], out) or unlisted(trial, out)):
         return 'untold', []
     outcomes, _, _ = run.groups(out)
     places = tuple(place for place, one in enumerate(outcomes, 1) if REFUSED.fullmatch(one))
@@ -176,7 +187,7 @@ def tried(library, program, is_plain, given):
             if why:
                 failed += 1
                 print('FAILED %s, %s over %s: %s' % (name, request, program, '; '.join(why)), flush=True)
-    print('%s: %d runs ended with the line, %d were as without refusal, %d had statements that answered 22, %d a COMMIT without its account' % (
+    print('%s: %d runs ended with the line, %d were as without refusal, %d had statements that answered 22, %d a COMMIT without its account or a statement without its lines of what is pending' % (
         os.path.basename(program), became['ended'], became['same'], became['refused'], became['untold']), flush=True)
     return sum(became.values()) - failed, failed
 

@@ -2,7 +2,8 @@
 
 /**
  * @typedef {{before: Run[], changes: object[], actions: object[]}} Wave `before` has the BEFORE triggers, `actions` what follows from the changes
- * @typedef {{trigger: string, old: any[] | null, new: any[] | null, saw: object[], statements: {place: number, blocks: Blocks}[]}} Run
+ * @typedef {{trigger: string, old: any[] | null, new: any[] | null, saw: object[], statements: {place: number, changesNothing?: true, blocks: Blocks}[], when?: string}} Run one
+ *     that is skipped has in `when` the truth of its WHEN
  * @typedef {{waves: Wave[], triggers: Run[], violations: object[], notes: string[]}} Blocks
  */
 
@@ -21,7 +22,9 @@ export function blocksOf(entries) {
     } else if (entry.kind === "action") {
       blocks.waves.at(-1)?.actions.push(entry);
     } else if (entry.kind === "trigger") {
-      blocks.triggers.push({ ...entry, statements: entry.statements.map(({ place, entries: inner }) => ({ place, blocks: blocksOf(inner) })) });
+      blocks.triggers.push({ ...entry, statements: entry.statements.map(({ place, entries: inner, changesNothing }) => ({ place, changesNothing, blocks: blocksOf(inner) })) });
+    } else if (entry.kind === "skipped") {
+      blocks.triggers.push({ ...entry, saw: [], statements: [] });
     } else if (entry.kind === "violation") {
       blocks.violations.push(entry);
     } else {

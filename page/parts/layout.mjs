@@ -84,7 +84,8 @@ function placeWaves(sheet, { waves, violations }, x, y, room) {
 
 function triggerTitle(sheet, run) {
   const trigger = sheet.schema.triggers.get(run.trigger);
-  return trigger ? ` ${trigger.time} ${trigger.event} ON ${trigger.table}` : "";
+  const skipped = run.when ? ` skipped: WHEN is ${run.when}` : "";
+  return `${trigger ? ` ${trigger.time} ${trigger.event} ON ${trigger.table}` : ""}${skipped}`;
 }
 
 function triggerWidth(sheet, run) {
@@ -112,9 +113,9 @@ function placeTrigger(sheet, run, x, y, room, isRefused) {
   return { bottom: y + frame.h, right };
 }
 
-function placeStatement(sheet, { place, blocks }, x, y, room, isRefused) {
+function placeStatement(sheet, { place, blocks, changesNothing }, x, y, room, isRefused) {
   const isEmpty = blocks.waves.length + blocks.triggers.length + blocks.violations.length === 0;
-  const words = `statement ${place} of the body${isEmpty ? (isRefused ? "" : ": no row") : ""}`;
+  const words = `statement ${place} of the body${changesNothing ? " changes nothing" : ""}`;
   sheet.text(x, y + 12, words, "soft");
   const size = placeBlocks(sheet, blocks, x, y + LINE, room, isRefused);
   return { bottom: isEmpty ? y + LINE : size.bottom, right: Math.max(size.right, x + sheet.width(words)) };

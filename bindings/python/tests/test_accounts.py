@@ -4,7 +4,7 @@ import unittest
 from pathlib import Path
 
 import sqlkeep
-from sqlkeep import Action, Answer, Change, Nested, Refusal, Trigger, Violation
+from sqlkeep import Action, Answer, Change, Nested, Refusal, Skipped, Trigger, Violation
 from sqlkeep.account import NameFault
 
 ROOT = Path(os.environ.get("SQLKEEP_ROOT", Path(__file__).resolve().parents[3]))
@@ -71,6 +71,22 @@ class ByHand(unittest.TestCase):
             Trigger("CLOSED"),
         ))
 
+    def test_skipped(self):
+        text = ("  trigger HOLD skipped: WHEN is unknown\n  trigger TAKE NEW (1, 'x')\n  statement 1 changes nothing\n  statement 2\n"
+                "    trigger TRACK OLD (1) NEW (NULL) skipped: WHEN is false\n  trigger TAKE NEW (2, 'y') skipped: WHEN is false\n")
+        found = sqlkeep.parse_account(text)
+        track = Skipped("TRACK", "false", old=(1,), new=(None,))
+        self.assertEqual(found.events, (
+            Skipped("HOLD", "unknown"),
+            Trigger("TAKE", new=(1, "x"), statements=(Nested(1, (), changes_nothing=True), Nested(2, (track,)))),
+            Skipped("TAKE", "false", new=(2, "y")),
+        ))
+        self.assertEqual((str(found), found.triggers()), (text, ["TAKE"]))
+
+    def test_refused_at_once(self):
+        found = sqlkeep.parse_account("  trigger AGAIN\n  statement 1\n")
+        self.assertEqual(found.events, (Trigger("AGAIN", statements=(Nested(1, ()),)),))
+
     def test_actions(self):
         found = sqlkeep.parse_account("  F CASCADE on C row 3\n  G SET NULL on D row 4\n  H SET DEFAULT on E row 5\n")
         self.assertEqual(found.events, (Action("F", "CASCADE", "C", 3), Action("G", "SET NULL", "D", 4), Action("H", "SET DEFAULT", "E", 5)))
@@ -85,6 +101,10 @@ class ByHand(unittest.TestCase):
             ("C: T row 1 (5) refers to P (5), which isn't there", Violation("C", "T", 1, (5,), "missing", refers_to="P", key=(5,))),
             ("C: T row 1 (5) refers to P (5), which RESTRICT protects", Violation("C", "T", 1, (5,), "restrict", refers_to="P", key=(5,))),
             ("C: T row 1 (5) refers to P (5), and another foreign key sets a column otherwise", Violation("C", "T", 1, (5,), "conflict", refers_to="P", key=(5,))),
+            ("C: T row 1 (5) refers to P (5), and B sets A to NULL, where C sets it to 'it''s, (so)'",
+             Violation("C", "T", 1, (5,), "conflict", refers_to="P", key=(5,), column="A", other="B", other_value=None, value="it's, (so)")),
+            ("C: T row 1 (5) refers to P (5, 'x'), and B sets A to -7, where C sets it to 8",
+             Violation("C", "T", 1, (5,), "conflict", refers_to="P", key=(5, "x"), column="A", other="B", other_value=-7, value=8)),
         ]:
             with self.subTest(line):
                 account = sqlkeep.parse_account(f"  {line}\n")

@@ -38,7 +38,7 @@ CAUSES = [
      "INSERT INTO u VALUES (5)", sqlkeep.IntegrityError, 13, "Violation", "Violation of T_C1: T row 2 (0) makes its condition false, in trigger R"),
     ("CREATE TABLE p (k INT UNIQUE, l INT UNIQUE); CREATE TABLE c (x INT, CONSTRAINT f FOREIGN KEY (x) REFERENCES p (k) ON UPDATE SET NULL,"
      " CONSTRAINT g FOREIGN KEY (x) REFERENCES p (l) ON UPDATE CASCADE); INSERT INTO p VALUES (5, 5); INSERT INTO c VALUES (5);",
-     "UPDATE p SET k = 6, l = 7", sqlkeep.IntegrityError, 14, "ActionConflict", "ActionConflict of G: C row 2 (5) refers to P (5), and another foreign key sets a column otherwise"),
+     "UPDATE p SET k = 6, l = 7", sqlkeep.IntegrityError, 14, "ActionConflict", "ActionConflict of G: C row 2 (5) refers to P (5), and F sets X to NULL, where G sets it to 7"),
     ("CREATE TABLE t (a INT); CREATE TRIGGER guard BEFORE DELETE ON t SIGNAL 'it''s kept';", "DELETE FROM t", sqlkeep.IntegrityError, 15, "Signal", "Signal of GUARD: it's kept"),
     ("CREATE TABLE t (a INT); CREATE TRIGGER again AFTER INSERT ON t INSERT INTO t VALUES (1);", "INSERT INTO t VALUES (0)", sqlkeep.OperationalError, 16, "DepthLimit",
      "DepthLimit of AGAIN: the statements of triggers are nested too deep"),

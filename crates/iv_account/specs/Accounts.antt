@@ -1,5 +1,5 @@
--- The account of a data statement: the waves as they were applied, with the foreign keys that act after each; the triggers that ran,
--- with what they saw; the same of the data statements of their bodies; and the rows that a refusal is about.
+-- The account of a data statement: the waves as they were applied, with the foreign keys that act after each; the triggers that were
+-- asked, with what they saw; the same of the data statements of their bodies; and the rows that a refusal is about.
 use Rattle.std.specs.Prelude.{ℕ, zero, suc, ◌+◌, ◌-◌, Bool, true, false, if◌then◌else◌, nat_lt, List, [], ◌∷◌, ◌++◌, filter, flat_map, find, slice_get, Option, Some, None, Result, Ok, Err}
 use Rattle.iv_machine.specs.Types.{StoredRow, Change, TableColumn, ReferentialAction, BodyStatement, DataStatement, Trigger, NullTreatment, Constraint, Rule, Cause, Fault}
 use Rattle.iv_machine.specs.declared.database.Database.{Database}
@@ -10,20 +10,26 @@ use Rattle.iv_machine.specs.Types.body
 use Rattle.iv_machine.specs.declared.database.Which.TheVariants.{Immediate}
 use Rattle.iv_machine.specs.Types.cause.{Restrict, ActionConflict}
 use Rattle.iv_expr.specs.Changes.{Wave}
+use Rattle.iv_value.specs.Truths.{is_true}
+use Rattle.iv_value.specs.declared.value.Truth.{Truth}
+use Rattle.iv_value.specs.declared.value.Truth.TheVariants.{True}
+use Rattle.iv_expr.specs.Evaluation.{truth}
 use Rattle.iv_expr.specs.Scopes.{Frame, no_frame, scope_of, table_rows}
 use Rattle.iv_catalogue.specs.Catalogues.{Schema}
 use Rattle.iv_machine.specs.Bounds.{most_changes_in_a_transaction}
 use Rattle.iv_machine.specs.Databases.{row_at, shares_key, scan, is_chosen, first, size, database_after}
 use Rattle.iv_machine.specs.Context.{Context, while_running, each}
-use Rattle.iv_machine.specs.Proposals.{holds, proposed_wave}
+use Rattle.iv_machine.specs.Proposals.{proposed_wave}
 use Rattle.iv_machine.specs.BeforeTriggers.{for_each_row, is_before_row_on, is_before_this, is_on, event_of_change, placed_statements, before_statement_run, before_statement, change_frame, change_after_trigger}
-use Rattle.iv_machine.specs.ReferentialActions.{Reference, references, Loss, LostKeys, lost_keys, lost_reference, action_on, keeps_reference, following_wave}
+use Rattle.iv_machine.specs.ReferentialActions.{Reference, references, Loss, LostKeys, lost_keys, lost_reference, action_on, keeps_reference, effects_on, following_wave}
 use Rattle.iv_machine.specs.Waves.{numbered_wave, is_beyond_last_row, wave_as_applied, is_empty, one_wave, settled_waves, net_wave}
 use Rattle.iv_machine.specs.Levels.{Firing, Progress, Runs, statement_run, firing_run, firings, level_columns, immediate_check, nested_level}
 use Rattle.iv_account.specs.declared.entry.RowAction.{RowAction}
 use Rattle.iv_account.specs.declared.entry.TriggerView.{TriggerView}
+use Rattle.iv_account.specs.declared.entry.Disagreement.{Disagreement}
 use Rattle.iv_account.specs.declared.entry.Entry.{Entry}
-use Rattle.iv_account.specs.declared.entry.Entry.TheVariants.{Changed, Acted, Ran, Began, Ended, Faulted}
+use Rattle.iv_account.specs.declared.entry.Entry.TheVariants.{Changed, Acted, Ran, Skipped, Began, Ended, Faulted, Disagreed}
+use Rattle.iv_account.specs.Disagreements.{disagreement}
 
 -- ---- one after another
 
@@ -75,11 +81,24 @@ fault_told schema rows fault = Faulted fault (rows_of_fault schema rows fault)
 abbrev pub faults_told : Schema → List StoredRow → List Fault → List Entry
 faults_told schema rows faults = flat_map (λ fault. fault_told schema rows fault ∷ []) faults
 
--- a row that refers to a key which RESTRICT protects, or on which two foreign keys disagree, as it was before the wave
-abbrev pub action_fault_told : List StoredRow → Cause → List Entry
-action_fault_told rows (Restrict fault) = Faulted fault (if_some (row_at rows fault.row)) ∷ []
-action_fault_told rows (ActionConflict fault) = Faulted fault (if_some (row_at rows fault.row)) ∷ []
-action_fault_told rows _ = []
+-- how a foreign key disagrees with an earlier one about a row of the later database, by what all foreign keys do to it
+abbrev pub disagreement_at : Schema → List StoredRow → List StoredRow → Fault → Option Disagreement
+disagreement_at schema rows later fault = elim (row_at later fault.row) [
+  | Some after ↦ disagreement fault.constraint (effects_on schema (lost_keys rows later) (row_at rows after.number) after)
+  | None ↦ None
+]
+
+-- two foreign keys disagree about these rows, and how they do
+abbrev pub conflict_told : Fault → List StoredRow → Option Disagreement → Entry
+conflict_told fault rows (Some how) = Disagreed fault rows how
+conflict_told fault rows None = Faulted fault rows
+
+-- a row that refers to a key which RESTRICT protects, or about which two foreign keys disagree, as it was before the wave
+abbrev pub action_fault_told : Schema → List StoredRow → List StoredRow → Cause → List Entry
+action_fault_told schema rows later (Restrict fault) = Faulted fault (if_some (row_at rows fault.row)) ∷ []
+action_fault_told schema rows later (ActionConflict fault) =
+    conflict_told fault (if_some (row_at rows fault.row)) (disagreement_at schema rows later fault) ∷ []
+action_fault_told schema rows later _ = []
 
 -- ---- BEFORE triggers
 
@@ -91,19 +110,29 @@ seen x = record { old = x.frame.old; new = x.frame.new; transition = if for_each
 abbrev pub ran : Trigger → Frame → Entry
 ran t frame = Ran t.id (seen (record { trigger = t; frame = frame }))
 
--- a trigger runs on this, if its WHEN is true
-abbrev pub ran_where_true : List StoredRow → Trigger → Frame → List Entry
-ran_where_true rows t frame = unless_refused (holds (scope_of frame rows) t.when) (λ fires. if fires then ran t frame ∷ [] else [])
+-- A trigger is skipped, as its WHEN has this truth. Of what it saw only the two sides of a row are told, as of one that runs for each
+-- row.
+abbrev pub skipped : Trigger → Frame → Truth → Entry
+skipped t frame when = Skipped t.id (record { old = frame.old; new = frame.new; when = when })
+
+-- a trigger whose WHEN has this truth runs or is skipped
+abbrev pub ran_or_skipped : Trigger → Frame → Truth → Entry
+ran_or_skipped t frame True = ran t frame
+ran_or_skipped t frame when = skipped t frame when
+
+-- so by the truth of its WHEN, unless that is at fault
+abbrev pub trigger_told : List StoredRow → Trigger → Frame → List Entry
+trigger_told rows t frame = unless_refused (truth (scope_of frame rows) t.when) (λ when. ran_or_skipped t frame when ∷ [])
 
 -- The BEFORE statement triggers of a statement, in creation order.
 abbrev pub before_statement_told : Context → List StoredRow → DataStatement → List Entry
 before_statement_told context rows statement =
-    told_in_turn (λ t _. while_running t.id (before_statement_run rows t)) (λ t _. ran_where_true rows t no_frame)
+    told_in_turn (λ t _. while_running t.id (before_statement_run rows t)) (λ t _. trigger_told rows t no_frame)
     (filter (is_before_this statement) context.schema.triggers) tt
 
 -- a BEFORE row trigger on a change, if it is on the change's table and event
 abbrev pub before_row_told : List StoredRow → Trigger → Change → List Entry
-before_row_told rows t c = if is_on c.table (event_of_change c) t then ran_where_true rows t (change_frame c) else []
+before_row_told rows t c = if is_on c.table (event_of_change c) t then trigger_told rows t (change_frame c) else []
 
 -- a BEFORE row trigger on each of these changes
 abbrev pub before_each_told : Context → List StoredRow → Trigger → List Change → List Entry
@@ -162,7 +191,7 @@ acted_told schema rows later (c ∷ next) = Acted (flat_map (λ change. actions_
 abbrev pub following_told : Context → Database → Database → List Entry
 following_told context db later = elim (following_wave context db later) [
   | Ok next ↦ acted_told context.schema db.rows later.rows next.changes
-  | Err failure ↦ action_fault_told db.rows failure.cause
+  | Err failure ↦ action_fault_told context.schema db.rows later.rows failure.cause
 ]
 
 -- a wave as it was applied, and what follows it
@@ -216,13 +245,17 @@ abbrev pub body_told : Runs → Tells → Firing → List (ℕ × BodyStatement)
 body_told run tell x statements at =
     told_in_turn (λ s. statement_run run x s.0 s.1) (λ s. statement_told run tell x s.0 s.1) statements at
 
--- a trigger that fires: itself and its body, if WHEN is true
+-- a trigger whose WHEN has this truth, and its body, if that is true
+abbrev pub fired_told : Runs → Tells → Firing → Progress → Truth → List Entry
+fired_told run tell x at when =
+    ran_or_skipped x.trigger x.frame when ∷ (if is_true when then body_told run tell x (placed_statements x.trigger) at else [])
+
+-- a trigger that is asked: WHEN sees the database of its moment
 abbrev pub firing_told : Runs → Tells → Firing → Progress → List Entry
 firing_told run tell x at =
-    unless_refused (holds (scope_of x.frame at.database.rows) x.trigger.when) (λ fires.
-    if fires then ran x.trigger x.frame ∷ body_told run tell x (placed_statements x.trigger) at else [])
+    unless_refused (truth (scope_of x.frame at.database.rows) x.trigger.when) (fired_told run tell x at)
 
--- all triggers that fire, one after another
+-- all triggers that are asked, one after another
 abbrev pub firings_told : Runs → Tells → List Firing → Progress → List Entry
 firings_told run tell xs at = told_in_turn (firing_run run) (firing_told run tell) xs at
 

@@ -1,3 +1,4 @@
 pub mod Accounts
+pub mod Disagreements
 pub mod Telling
 pub mod Sessions

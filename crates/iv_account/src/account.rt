@@ -1,15 +1,15 @@
 //! The list that records the account of a statement.
 ghost use Rattle.std.specs.Prelude.{◌≡◌, [], ◌∷◌, false, Ok, IfOk, OnOk};
 ghost use Rattle.std.specs.Option.{option_copied};
-ghost use Rattle.iv_account.specs.Accounts.{ran, seen};
+ghost use Rattle.iv_account.specs.Accounts.{conflict_told, ran_or_skipped, seen};
 ghost use Rattle.iv_account.specs.Telling.{and_told, no_account, untold_account};
 ghost use Rattle.iv_account.specs.declared.entry.Entry.TheVariants as entry;
 
-use crate::entry::{Entry, RowAction, TriggerView};
+use crate::entry::{Disagreement, Entry, RowAction, SkippedView, TriggerView};
 use iv_catalogue::{Fault, Trigger};
 use iv_expr::{Change, Frame, Row, StoredRow};
 use iv_syntax::Granularity;
-use iv_value::Value;
+use iv_value::{Truth, Value};
 use sqlite_items::Items;
 use std::alloc::{AllocError, Global};
 use std::marker::Model;
@@ -55,6 +55,32 @@ fn seen(alloc: Global, trigger: &Trigger, frame: &Frame<'_>) -> Result<TriggerVi
         new,
         transition,
     })
+}
+
+// What a trigger saw that is skipped.
+fn skipped(alloc: Global, frame: &Frame<'_>, when: Truth) -> Result<SkippedView, AllocError>
+    ensures { IfOk result (λ s. s ≡ record { old = frame.now.old; new = frame.now.new; when = when }) }
+{
+    Ok(SkippedView {
+        old: side_of(alloc, frame.old)?,
+        new: side_of(alloc, frame.new)?,
+        when,
+    })
+}
+
+// What is told of a trigger whose WHEN has this truth.
+fn ran_or_skipped(
+    alloc: Global,
+    trigger: &Trigger,
+    frame: &Frame<'_>,
+    when: Truth,
+) -> Result<Entry, AllocError>
+    ensures { IfOk result (λ e. e ≡ ran_or_skipped trigger.now frame.now when) }
+{
+    match when {
+        Truth::True => Ok(Entry::Ran(trigger.id, seen(alloc, trigger, frame)?)),
+        _ => Ok(Entry::Skipped(trigger.id, skipped(alloc, frame, when)?)),
+    }
 }
 
 /// The entries so far if an account is asked for, and otherwise nothing. Without an account no call allocates. If an
@@ -159,16 +185,22 @@ impl Account {
         self.add(Entry::Acted(Items::from_vec(actions)))
     }
 
-    /// Records that a trigger runs on what it sees.
-    pub fn ran(&mut self, trigger: &Trigger, frame: &Frame<'_>) -> Result<(), AllocError>
-        ensures told { OnOk result (self.new ≡ and_told self.old (ran trigger.now frame.now ∷ [])) }
+    /// Records that a trigger runs on what it sees, or is skipped, by the truth of its WHEN.
+    pub fn ran_or_skipped(
+        &mut self,
+        trigger: &Trigger,
+        frame: &Frame<'_>,
+        when: Truth,
+    ) -> Result<(), AllocError>
+        ensures told { OnOk result (self.new ≡ and_told self.old
+            (ran_or_skipped trigger.now frame.now when ∷ [])) }
         ensures unasked { self.old.asked ≡ false → result ≡ Ok tt }
     {
         if !self.asked {
             return Ok(());
         }
-        let seen = seen(*self.entries.allocator(), trigger, frame)?;
-        self.add(Entry::Ran(trigger.id, seen))
+        let entry = ran_or_skipped(*self.entries.allocator(), trigger, frame, when)?;
+        self.add(entry)
     }
 
     /// Records that the data statement at this place of a trigger's body begins.
@@ -193,5 +225,22 @@ impl Account {
         ensures unasked { self.old.asked ≡ false → result ≡ Ok tt }
     {
         self.add(Entry::Faulted(fault, Items::from_vec(rows)))
+    }
+
+    /// Records the later of two foreign keys that disagree about a row, with these rows, and how they disagree.
+    pub fn disagreed(
+        &mut self,
+        fault: Fault,
+        rows: Vec<StoredRow>,
+        how: Option<Disagreement>,
+    ) -> Result<(), AllocError>
+        ensures told { OnOk result (self.new ≡ and_told self.old
+            (conflict_told fault rows.items how ∷ [])) }
+        ensures unasked { self.old.asked ≡ false → result ≡ Ok tt }
+    {
+        match how {
+            Some(how) => self.add(Entry::Disagreed(fault, Items::from_vec(rows), how)),
+            None => self.faulted(fault, rows),
+        }
     }
 }

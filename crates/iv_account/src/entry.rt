@@ -2,6 +2,7 @@
 use iv_catalogue::{ConstraintId, Fault, TriggerId};
 use iv_expr::{Change, Row, StoredRow, TableId};
 use iv_syntax::ReferentialAction;
+use iv_value::{Truth, Value};
 use sqlite_items::Items;
 
 /// A referential action on a row whose referenced key was deleted or updated.
@@ -23,6 +24,28 @@ pub struct TriggerView {
     pub transition: Items<Change>,
 }
 
+/// What a trigger saw whose body doesn't run: OLD and NEW for a row trigger, as far as they are there, and the truth of
+/// its WHEN, which is false or unknown.
+#[derive(Drop)]
+pub struct SkippedView {
+    pub old: Option<Row>,
+    pub new: Option<Row>,
+    pub when: Truth,
+}
+
+/// How two foreign keys disagree about a row: the first column that they set to different values. The later of them is
+/// the one for which the statement is refused.
+#[derive(Drop)]
+pub struct Disagreement {
+    /// The foreign key that was created first.
+    pub earlier: ConstraintId,
+    pub column: u32,
+    /// What the earlier foreign key sets the column to.
+    pub earlier_value: Value,
+    /// What the later foreign key sets it to.
+    pub value: Value,
+}
+
 /// One entry of an account, in the order in which things happened.
 #[derive(Drop)]
 pub enum Entry {
@@ -32,6 +55,8 @@ pub enum Entry {
     Acted(Items<RowAction>),
     /// A trigger whose WHEN was true of what it saw, so that its body runs.
     Ran(TriggerId, TriggerView),
+    /// A trigger whose WHEN was false or unknown of what it saw, so that its body doesn't run.
+    Skipped(TriggerId, SkippedView),
     /// The data statement at this place of the body, from 1, begins. The entries up to its `Ended` are its own.
     Began(u32),
     /// The data statement that began last and hasn't ended ends. A refused one has no end.
@@ -39,4 +64,6 @@ pub enum Entry {
     /// The constraint and the row that the statement is refused for: the row, and, if the constraint is a key, the
     /// first other row with the same key.
     Faulted(Fault, Items<StoredRow>),
+    /// The later of two foreign keys that disagree about a row, the row as it was before the wave, and how they disagree.
+    Disagreed(Fault, Items<StoredRow>, Disagreement),
 }

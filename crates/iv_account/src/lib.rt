@@ -7,4 +7,4 @@ mod equal;
 mod fault;
 
 pub use account::Account;
-pub use entry::{Entry, RowAction, TriggerView};
+pub use entry::{Disagreement, Entry, RowAction, SkippedView, TriggerView};

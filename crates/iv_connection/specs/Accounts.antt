@@ -1,23 +1,33 @@
 -- What C reads of an account, entry by entry and item by item. Places count from 0.
 use Rattle.std.specs.Prelude.{ℕ, zero, suc, Bool, List, length, is_some, if◌then◌else◌, slice_get, Option, Some, None, option_and_then, option_map}
 use Rattle.iv_account.specs.declared.entry.Entry.{Entry}
-use Rattle.iv_account.specs.declared.entry.Entry.TheVariants.{Changed, Acted, Ran, Began, Ended, Faulted}
+use Rattle.iv_account.specs.declared.entry.Entry.TheVariants.{Changed, Acted, Ran, Skipped, Began, Ended, Faulted, Disagreed}
+use Rattle.iv_account.specs.declared.entry.Disagreement.{Disagreement}
 use Rattle.iv_account.specs.declared.entry.RowAction.{RowAction}
 use Rattle.iv_account.specs.declared.entry.TriggerView.{TriggerView}
 use Rattle.iv_catalogue.specs.Catalogues.{Schema}
 use Rattle.iv_expr.specs.declared.row.Change.{Change}
 use Rattle.iv_expr.specs.declared.row.StoredRow.{StoredRow}
+use Rattle.iv_value.specs.declared.value.Truth.{Truth}
+use Rattle.iv_value.specs.declared.value.Truth.TheVariants.{Unknown}
 use Rattle.iv_value.specs.declared.value.Value.{Value}
 use Rattle.iv_connection.specs.Catalogue.{action_number}
+use Rattle.iv_connection.specs.Cells.{cell_of}
 use Rattle.iv_connection.specs.Texts.{trigger_named}
+use Rattle.iv_connection.specs.declared.accounts.ShownDisagreement.{ShownDisagreement}
 use Rattle.iv_connection.specs.declared.accounts.ShownEntry.{ShownEntry}
 use Rattle.iv_connection.specs.declared.accounts.ShownItem.{ShownItem}
 
 abbrev pub flag : Bool → ℕ
 flag b = if b then 1 else 0
 
+-- 1 where a WHEN is unknown
+abbrev pub unknown_flag : Truth → ℕ
+unknown_flag Unknown = 1
+unknown_flag _ = 0
+
 abbrev pub no_entry : ShownEntry
-no_entry = record { kind = 0; statement = 0; constraint = 0; has_old = 0; has_new = 0; items = 0; row = 0 }
+no_entry = record { kind = 0; statement = 0; constraint = 0; has_old = 0; has_new = 0; is_unknown = 0; items = 0; row = 0 }
 
 -- what kind of entry it is, and what it tells besides its items
 abbrev pub entry_shown : Entry → ShownEntry
@@ -25,13 +35,17 @@ entry_shown (Changed changes) = record no_entry { items = length changes }
 entry_shown (Acted actions) = record no_entry { kind = 1; items = length actions }
 entry_shown (Ran trigger seen) =
     record no_entry { kind = 2; has_old = flag (is_some seen.old); has_new = flag (is_some seen.new); items = length seen.transition }
+entry_shown (Skipped trigger seen) =
+    record no_entry { kind = 6; has_old = flag (is_some seen.old); has_new = flag (is_some seen.new); is_unknown = unknown_flag seen.when }
 entry_shown (Began place) = record no_entry { kind = 3; statement = place }
 entry_shown Ended = record no_entry { kind = 4 }
 entry_shown (Faulted fault rows) = record no_entry { kind = 5; constraint = fault.constraint; items = length rows; row = fault.row }
+entry_shown (Disagreed fault rows how) = record no_entry { kind = 7; constraint = fault.constraint; items = length rows; row = fault.row }
 
--- the trigger that runs
+-- the trigger that runs or is skipped
 abbrev pub entry_trigger : Schema → Entry → Option (List ℕ)
 entry_trigger s (Ran trigger seen) = Some (trigger_named s (Some trigger))
+entry_trigger s (Skipped trigger seen) = Some (trigger_named s (Some trigger))
 entry_trigger s _ = None
 
 abbrev pub change_shown : Change → ShownItem
@@ -51,6 +65,7 @@ item_shown (Changed changes) item = option_map change_shown (slice_get changes i
 item_shown (Acted actions) item = option_map row_action_shown (slice_get actions item)
 item_shown (Ran trigger seen) item = option_map change_shown (slice_get seen.transition item)
 item_shown (Faulted fault rows) item = option_map stored_shown (slice_get rows item)
+item_shown (Disagreed fault rows how) item = option_map stored_shown (slice_get rows item)
 item_shown _ item = None
 
 -- the values of a row before a change, on side 0, and after it, on side 1
@@ -67,12 +82,33 @@ abbrev pub item_values : Entry → ℕ → ℕ → Option (List Value)
 item_values (Changed changes) item side = option_and_then (change_side side) (slice_get changes item)
 item_values (Ran trigger seen) item side = option_and_then (change_side side) (slice_get seen.transition item)
 item_values (Faulted fault rows) item side = side_of None (option_map (λ r. r.values) (slice_get rows item)) side
+item_values (Disagreed fault rows how) item side = side_of None (option_map (λ r. r.values) (slice_get rows item)) side
 item_values _ item side = None
 
--- OLD, on side 0, and NEW, on side 1, of a trigger that runs for a row
+-- OLD, on side 0, and NEW, on side 1, of a trigger that runs or is skipped for a row
 abbrev pub seen_values : Entry → ℕ → Option (List Value)
 seen_values (Ran trigger seen) side = side_of seen.old seen.new side
+seen_values (Skipped trigger seen) side = side_of seen.old seen.new side
 seen_values _ side = None
+
+-- how two foreign keys disagree
+abbrev pub how_in : Entry → Option Disagreement
+how_in (Disagreed fault rows how) = Some how
+how_in _ = None
+
+abbrev pub disagreement_shown : Disagreement → ShownDisagreement
+disagreement_shown how = record {
+  earlier = how.earlier;
+  column = how.column;
+  earlier_value = cell_of how.earlier_value;
+  value = cell_of how.value;
+}
+
+-- what the earlier foreign key sets the column to, on side 0, and what the later one does, on side 1
+abbrev pub set_on : ℕ → Disagreement → Option Value
+set_on zero how = Some how.earlier_value
+set_on (suc zero) how = Some how.value
+set_on (suc (suc n)) how = None
 
 -- in the list of entries
 abbrev pub item_at : List Entry → ℕ → ℕ → Option ShownItem
@@ -88,3 +124,9 @@ seen_value entries at side column =
 
 abbrev pub trigger_at_entry : Schema → List Entry → ℕ → Option (List ℕ)
 trigger_at_entry s entries at = option_and_then (entry_trigger s) (slice_get entries at)
+
+abbrev pub disagreement_at : List Entry → ℕ → Option Disagreement
+disagreement_at entries at = option_and_then how_in (slice_get entries at)
+
+abbrev pub set_value : List Entry → ℕ → ℕ → Option Value
+set_value entries at side = option_and_then (set_on side) (disagreement_at entries at)

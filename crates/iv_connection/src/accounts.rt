@@ -1,6 +1,6 @@
 //! The account of the last statement, entry by entry.
 ghost use Rattle.std.specs.Prelude.{◌≡◌, ◌≢◌, length, slice_get, IfSome, option_and_then, option_copied, option_map, is_some};
-ghost use Rattle.iv_connection.specs.Accounts.{change_shown, change_side, entry_shown, entry_trigger, flag, item_at, item_shown, item_value, item_values, row_action_shown, seen_value, seen_values, side_of, stored_shown, trigger_at_entry};
+ghost use Rattle.iv_connection.specs.Accounts.{change_shown, change_side, disagreement_at, disagreement_shown, entry_shown, entry_trigger, flag, how_in, item_at, item_shown, item_value, item_values, row_action_shown, seen_value, seen_values, set_on, set_value, side_of, stored_shown, trigger_at_entry, unknown_flag};
 ghost use Rattle.iv_connection.specs.Copying.{Copies};
 ghost use Rattle.iv_connection.specs.Cells.{text_of, cell_of};
 ghost use Rattle.iv_connection.specs.Statuses.{found};
@@ -11,10 +11,10 @@ use crate::constraints::action_number;
 use crate::copying::copied;
 use crate::status::{NOTHING, OK};
 use crate::texts::trigger_named;
-use iv_account::{Entry, RowAction, TriggerView};
-use iv_catalogue::Catalogue;
+use iv_account::{Disagreement, Entry, RowAction, SkippedView, TriggerView};
+use iv_catalogue::{Catalogue, Fault};
 use iv_expr::{Change, Row, StoredRow};
-use iv_value::Value;
+use iv_value::{Truth, Value};
 
 /// An entry in numbers, as `include/sqlkeep.h` names them.
 #[repr(C)]
@@ -25,6 +25,7 @@ pub struct ShownEntry {
     pub constraint: u32,
     pub has_old: u32,
     pub has_new: u32,
+    pub is_unknown: u32,
     pub items: u64,
     pub row: u64,
 }
@@ -41,6 +42,16 @@ pub struct ShownItem {
     pub row: u64,
 }
 
+/// How two foreign keys disagree, in numbers, as `include/sqlkeep.h` names them.
+#[repr(C)]
+#[derive(Drop)]
+pub struct ShownDisagreement {
+    pub earlier: u32,
+    pub column: u32,
+    pub earlier_value: Cell,
+    pub value: Cell,
+}
+
 fn flag(is_so: bool) -> u32
     ensures { result ≡ flag is_so }
 {
@@ -54,6 +65,7 @@ fn ran_shown(seen: &TriggerView) -> ShownEntry
       constraint = 0;
       has_old = flag (is_some seen.now.old);
       has_new = flag (is_some seen.now.new);
+      is_unknown = 0;
       items = length seen.now.transition;
       row = 0;
     } }
@@ -64,13 +76,63 @@ fn ran_shown(seen: &TriggerView) -> ShownEntry
         constraint: 0,
         has_old: flag(seen.old.is_some()),
         has_new: flag(seen.new.is_some()),
+        is_unknown: 0,
         items: seen.transition.len() as u64,
         row: 0,
     }
 }
 
+fn unknown_flag(when: Truth) -> u32
+    ensures { result ≡ unknown_flag when }
+{
+    match when {
+        Truth::Unknown => 1,
+        _ => 0,
+    }
+}
+
+fn skipped_shown(seen: &SkippedView) -> ShownEntry
+    ensures { result ≡ record {
+      kind = 6;
+      statement = 0;
+      constraint = 0;
+      has_old = flag (is_some seen.now.old);
+      has_new = flag (is_some seen.now.new);
+      is_unknown = unknown_flag seen.now.when;
+      items = 0;
+      row = 0;
+    } }
+{
+    ShownEntry {
+        kind: 6,
+        statement: 0,
+        constraint: 0,
+        has_old: flag(seen.old.is_some()),
+        has_new: flag(seen.new.is_some()),
+        is_unknown: unknown_flag(seen.when),
+        items: 0,
+        row: 0,
+    }
+}
+
+// A refusal for this constraint and row, with so many rows.
+fn fault_shown(kind: u32, fault: &Fault, items: u64) -> ShownEntry
+    ensures { result ≡ record { kind = kind; statement = 0; constraint = fault.now.constraint; has_old = 0; has_new = 0; is_unknown = 0; items = items; row = fault.now.row } }
+{
+    ShownEntry {
+        kind,
+        statement: 0,
+        constraint: fault.constraint.place(),
+        has_old: 0,
+        has_new: 0,
+        is_unknown: 0,
+        items,
+        row: fault.row,
+    }
+}
+
 fn counted(kind: u32, statement: u32, items: u64) -> ShownEntry
-    ensures { result ≡ record { kind = kind; statement = statement; constraint = 0; has_old = 0; has_new = 0; items = items; row = 0 } }
+    ensures { result ≡ record { kind = kind; statement = statement; constraint = 0; has_old = 0; has_new = 0; is_unknown = 0; items = items; row = 0 } }
 {
     ShownEntry {
         kind,
@@ -78,6 +140,7 @@ fn counted(kind: u32, statement: u32, items: u64) -> ShownEntry
         constraint: 0,
         has_old: 0,
         has_new: 0,
+        is_unknown: 0,
         items,
         row: 0,
     }
@@ -90,17 +153,11 @@ pub fn entry_shown(entry: &Entry) -> ShownEntry
         Entry::Changed(changes) => counted(0, 0, changes.len() as u64),
         Entry::Acted(actions) => counted(1, 0, actions.len() as u64),
         Entry::Ran(_, seen) => ran_shown(seen),
+        Entry::Skipped(_, seen) => skipped_shown(seen),
         Entry::Began(place) => counted(3, *place, 0),
         Entry::Ended => counted(4, 0, 0),
-        Entry::Faulted(fault, rows) => ShownEntry {
-            kind: 5,
-            statement: 0,
-            constraint: fault.constraint.place(),
-            has_old: 0,
-            has_new: 0,
-            items: rows.len() as u64,
-            row: fault.row,
-        },
+        Entry::Faulted(fault, rows) => fault_shown(5, fault, rows.len() as u64),
+        Entry::Disagreed(fault, rows, _) => fault_shown(7, fault, rows.len() as u64),
     }
 }
 
@@ -109,6 +166,7 @@ fn entry_trigger<'a>(catalogue: &'a Catalogue, entry: &Entry) -> Option<&'a [u8]
 {
     match entry {
         Entry::Ran(trigger, _) => Some(trigger_named(catalogue, Some(*trigger))),
+        Entry::Skipped(trigger, _) => Some(trigger_named(catalogue, Some(*trigger))),
         _ => None,
     }
 }
@@ -187,6 +245,7 @@ fn item_shown(entry: &Entry, item: usize) -> Option<ShownItem>
         Entry::Acted(actions) => action_item(actions.as_slice(), item),
         Entry::Ran(_, seen) => change_item(seen.transition.as_slice(), item),
         Entry::Faulted(_, rows) => stored_item(rows.as_slice(), item),
+        Entry::Disagreed(_, rows, _) => stored_item(rows.as_slice(), item),
         _ => None,
     }
 }
@@ -239,6 +298,7 @@ fn item_values(entry: &Entry, item: usize, side: u32) -> Option<&[Value]>
         Entry::Changed(changes) => change_values(changes.as_slice(), item, side),
         Entry::Ran(_, seen) => change_values(seen.transition.as_slice(), item, side),
         Entry::Faulted(_, rows) => stored_values(rows.as_slice(), item, side),
+        Entry::Disagreed(_, rows, _) => stored_values(rows.as_slice(), item, side),
         _ => None,
     }
 }
@@ -248,6 +308,38 @@ fn seen_values(entry: &Entry, side: u32) -> Option<&[Value]>
 {
     match entry {
         Entry::Ran(_, seen) => side_of(&seen.old, &seen.new, side),
+        Entry::Skipped(_, seen) => side_of(&seen.old, &seen.new, side),
+        _ => None,
+    }
+}
+
+fn how_in(entry: &Entry) -> Option<&Disagreement>
+    ensures { option_copied result ≡ how_in entry.now }
+{
+    match entry {
+        Entry::Disagreed(_, _, how) => Some(how),
+        _ => None,
+    }
+}
+
+pub fn disagreement_shown(how: &Disagreement) -> ShownDisagreement
+    ensures { result ≡ disagreement_shown how.now }
+{
+    ShownDisagreement {
+        earlier: how.earlier.place(),
+        column: how.column,
+        earlier_value: cell_of(&how.earlier_value),
+        value: cell_of(&how.value),
+    }
+}
+
+// What one of the two foreign keys sets the column to: 0 is the earlier one, 1 the later.
+fn set_on(side: u32, how: &Disagreement) -> Option<&Value>
+    ensures { option_copied result ≡ set_on side how.now }
+{
+    match side {
+        0 => Some(&how.earlier_value),
+        1 => Some(&how.value),
         _ => None,
     }
 }
@@ -287,6 +379,24 @@ pub fn seen_value(connection: &Connection, at: usize, side: u32, column: usize) 
     let entry = entry_at(connection, at)?;
     let values = seen_values(entry, side)?;
     values.get(column)
+}
+
+pub fn disagreement_at(connection: &Connection, at: usize) -> Option<&Disagreement>
+    ensures { option_copied result ≡ disagreement_at connection.now.session.account.entries at }
+{
+    match entry_at(connection, at) {
+        Some(entry) => how_in(entry),
+        None => None,
+    }
+}
+
+pub fn set_value(connection: &Connection, at: usize, side: u32) -> Option<&Value>
+    ensures { option_copied result ≡ set_value connection.now.session.account.entries at side }
+{
+    match disagreement_at(connection, at) {
+        Some(how) => set_on(side, how),
+        None => None,
+    }
 }
 
 pub fn entry_trigger_at(connection: &Connection, at: usize) -> Option<&[u8]>

@@ -101,9 +101,11 @@ fn show_entry(rt: &HostRuntime, catalogue: &Catalogue, entry: &Entry) -> io::Res
             actions.len()
         ),
         Entry::Ran(trigger, _) => println!(rt; "trigger {} runs", trigger.place()),
+        Entry::Skipped(trigger, _) => println!(rt; "trigger {} is skipped", trigger.place()),
         Entry::Began(place) => println!(rt; "statement {place} of it begins"),
         Entry::Ended => println!(rt; "it ends"),
         Entry::Faulted(fault, _) => show_fault(rt, catalogue, fault),
+        Entry::Disagreed(fault, _, _) => show_fault(rt, catalogue, fault),
     }
 }
 

@@ -136,7 +136,7 @@ pub row_then_is : (before later : Database) (changes : List Change) (number : �
 row_then_is before later changes number led =
     rows_before before (wave_of changes) number led.current ∙ ap (λ (db : Database). row_before (wave_of changes) db.rows number) led.leads
 
-lost_keys_are : (before later : Database) (changes : List Change) → LedTo before changes later → lost_keys before.rows later.rows ≡ keys_lost_by (wave_of changes)
+pub lost_keys_are : (before later : Database) (changes : List Change) → LedTo before changes later → lost_keys before.rows later.rows ≡ keys_lost_by (wave_of changes)
 lost_keys_are before later changes led =
     ap (λ (db : Database). lost_keys before.rows db.rows) (sym led.leads)
     ∙ (λ i fk key. lost_by_wave before (wave_of changes) fk key led.in_order led.rising led.current i)

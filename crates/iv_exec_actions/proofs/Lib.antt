@@ -11,3 +11,4 @@ pub mod Nothing
 pub mod Idle
 pub mod Grouping
 pub mod ActingKeys
+pub mod Disagreeing

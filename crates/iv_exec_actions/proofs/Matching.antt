@@ -134,7 +134,7 @@ module _ (changes : List Change) where
       by None = refl
       by (Some row) = restricted_is ks row
 
-  effects_at_is : (schema : Schema) (ks : List Reference) (later : List StoredRow) (after : StoredRow)
+  pub effects_at_is : (schema : Schema) (ks : List Reference) (later : List StoredRow) (after : StoredRow)
       → effects_at schema (under ks) changes later after ≡ laws.effects_at schema ks lost changes later after
   effects_at_is schema ks later after = by (row_before (wave_of changes) later after.number)
     where

@@ -14,6 +14,8 @@ use Rattle.iv_machine.specs.declared.effect.Effect.{Effect}
 use Rattle.iv_machine.specs.Context.{Failure, fails}
 use Rattle.iv_machine.specs.Databases.{row_at, fault_at}
 use Rattle.iv_machine.specs.ReferentialActions.{is_restrict, effects_of_action, keeps_reference, change_by, sets_values, referencing_columns}
+use Rattle.iv_account.specs.declared.entry.Disagreement.{Disagreement}
+use Rattle.iv_account.specs.Disagreements.{disagreement}
 use Rattle.iv_laws_levels.specs.Holders.{loss_of_new, row_before}
 use Rattle.iv_laws_kept.specs.FollowingWaves.{first_conflict, least}
 use Rattle.iv_exec_actions.specs.AffectedForeignKey.{AffectedForeignKey, action_for, change_losing}
@@ -66,6 +68,14 @@ abbrev pub conflict_at : Schema → List AffectedForeignKey → List Change → 
 conflict_at schema xs changes later number =
     elim (row_at later number) [
       | Some after ↦ option_map (λ id. fault_at id after) (first_conflict (effects_at schema xs changes later after))
+      | None ↦ None
+    ]
+
+-- how a foreign key disagrees with an earlier one about the row of a fault
+abbrev pub disagreement_by : Schema → List AffectedForeignKey → List Change → List StoredRow → Fault → Option Disagreement
+disagreement_by schema xs changes later fault =
+    elim (row_at later fault.row) [
+      | Some after ↦ disagreement fault.constraint (effects_at schema xs changes later after)
       | None ↦ None
     ]
 

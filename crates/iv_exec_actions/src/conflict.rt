@@ -32,8 +32,8 @@ pub fn have_deletion(effects: &[(u32, Effect)]) -> bool
     effects.iter().any(|effect| is_deletion(effect))
 }
 
-// Whether a pair sets the column of another to another value.
-fn sets_otherwise(pair: &(u32, Value), own: &(u32, Value)) -> bool
+/// Whether a pair sets the column of another to another value.
+pub fn sets_otherwise(pair: &(u32, Value), own: &(u32, Value)) -> bool
     ensures { result ≡ ((pair.now.0 == own.now.0) && not (is_same pair.now.1 own.now.1)) }
 {
     pair.0 == own.0 && !same(&pair.1, &own.1)

@@ -6,6 +6,7 @@ mod affected;
 mod by_table;
 mod change;
 mod conflict;
+mod disagreement;
 mod effect;
 mod finding;
 mod next;
@@ -14,4 +15,5 @@ mod row;
 mod setting;
 
 pub use acting::{row_actions, row_then};
+pub use disagreement::disagreement_at;
 pub use next::next_wave;

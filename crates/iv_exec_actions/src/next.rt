@@ -102,8 +102,8 @@ fn restricted<K: ReferencingRows>(
     }
 }
 
-// What foreign keys do to a row of the store.
-fn effects_at<K: ReferencingRows>(
+/// What foreign keys do to a row of the store.
+pub fn effects_at<K: ReferencingRows>(
     store: &K,
     catalogue: &Catalogue,
     affected_keys: &ByTable<'_>,

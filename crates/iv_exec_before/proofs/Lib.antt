@@ -1,2 +1,3 @@
 pub mod Untriggered
 mod InTurn
+pub mod Whens

@@ -1,13 +1,16 @@
 //! BEFORE triggers: those of a statement, and those of the rows of a wave ("Execution of BEFORE triggers").
-ghost use Rattle.std.specs.Prelude.{◌≡◌, ◌≤◌, ◌<◌, ◌+◌, ◌^◌, ◌&&◌, false, [], ◌∷◌, length, slice_set, filter, IfOk, OnOk};
+ghost use Rattle.std.specs.Prelude.{◌≡◌, ◌≤◌, ◌<◌, ◌+◌, ◌^◌, ◌&&◌, false, List, [], ◌∷◌, length, slice_set, filter, IfOk, Ok, OnOk};
+ghost use Rattle.iv_value.specs.declared.value.Truth.{Truth as TruthValue};
+ghost use Rattle.iv_value.specs.Truths.{is_true};
 ghost use Rattle.std.specs.List.{enumerate_from};
 ghost use Rattle.iv_account.specs.Accounts.{before_each_told, before_row_told, before_rows_told, before_statement_told};
-ghost use Rattle.iv_account.specs.Accounts.{before_triggers_told, ran, ran_where_true, told_in_turn};
+ghost use Rattle.iv_account.specs.Accounts.{before_triggers_told, ran_or_skipped, told_in_turn, trigger_told, unless_refused};
+ghost use Rattle.iv_account.specs.declared.entry.Entry.{Entry};
 ghost use Rattle.iv_account.specs.Telling.{and_told};
 ghost use Rattle.iv_exec_before.specs.Recording.{Records};
 ghost use Rattle.iv_catalogue.specs.Catalogues.{BodiesWithinLimit};
 ghost use Rattle.iv_catalogue.specs.declared.limits.TheConstants.{MOST_BODY_STATEMENTS};
-ghost use Rattle.iv_expr.specs.Evaluation.{value};
+ghost use Rattle.iv_expr.specs.Evaluation.{and_then, truth, value};
 ghost use Rattle.iv_expr.specs.Scopes.{no_frame, scope_of};
 ghost use Rattle.iv_machine.specs.BeforeTriggers.{before_row_run, before_statement, before_statement_run, change_after_set, change_after_statement};
 ghost use Rattle.iv_machine.specs.BeforeTriggers.{change_after_trigger, change_frame, changes_after_triggers, is_before_row_on, is_before_this, is_signal};
@@ -20,11 +23,12 @@ use crate::columns::{is_on_columns, is_on_set_columns};
 use crate::matching::{
     event_of, event_of_change, is_before_row, is_before_statement, is_on, table_of,
 };
+use crate::when::{is_true, truth_of_when};
 use iv_account::Account;
 use iv_catalogue::{BodyStatement, Cause, DataStatement, Refusal, Setting, Trigger};
-use iv_exec_context::{Context, holds, stored_value};
+use iv_exec_context::{Context, stored_value};
 use iv_expr::{Change, Frame, Row, Rows, Scope, TableColumn};
-use iv_value::Value;
+use iv_value::{Truth, Value};
 use std::alloc::{AllocError, Global};
 
 fn copied(alloc: Global, row: &[Value]) -> Result<Vec<Value>, AllocError>
@@ -147,26 +151,38 @@ fn run_body<R: Rows>(
     Ok(())
 }
 
-// Whether the WHEN of a trigger takes effect at a change.
-fn fires<'x, R: Rows>(rows: &'x R, trigger: &Trigger, change: &'x Change) -> Result<bool, Cause>
-    ensures { result ≡ holds
-        (scope_of (change_frame change.now) (R.rows rows.now)) trigger.now.when }
+// The truth of a trigger's WHEN at a change.
+fn when_at_row<'x, R: Rows>(
+    rows: &'x R,
+    trigger: &Trigger,
+    change: &'x Change,
+) -> Result<Truth, Cause>
+    ensures effect { holds (scope_of (change_frame change.now) (R.rows rows.now)) trigger.now.when
+        ≡ and_then result (λ t. Ok (is_true t)) }
+    ensures told { (tell : TruthValue → List Entry) → unless_refused
+        (truth (scope_of (change_frame change.now) (R.rows rows.now)) trigger.now.when) tell
+        ≡ unless_refused result tell }
 {
     let frame = Frame::at(&[], change);
     let scope = Scope::new(rows, &frame);
-    holds(&trigger.when, &scope)
+    truth_of_when(trigger, &scope)
 }
 
-// Tells that a BEFORE row trigger runs at a change.
-fn tell_at_row(trigger: &Trigger, change: &Change, account: &mut Account) -> Result<(), AllocError>
+// Tells that a BEFORE row trigger runs at a change, or is skipped, by the truth of its WHEN.
+fn tell_at_row(
+    trigger: &Trigger,
+    change: &Change,
+    when: Truth,
+    account: &mut Account,
+) -> Result<(), AllocError>
     ensures told { OnOk result (account.new ≡ and_told account.old
-        (ran trigger.now (change_frame change.now) ∷ [])) }
+        (ran_or_skipped trigger.now (change_frame change.now) when ∷ [])) }
 {
     let frame = Frame::at(&[], change);
-    account.ran(trigger, &frame)
+    account.ran_or_skipped(trigger, &frame, when)
 }
 
-// A BEFORE row trigger at a change, if its WHEN is true. That it runs is told before its body runs.
+// A BEFORE row trigger at a change, if its WHEN is true. That it runs, or is skipped, is told before its body runs.
 fn run_at_row<R: Rows>(
     alloc: Global,
     context: &Context<'_>,
@@ -179,10 +195,11 @@ fn run_at_row<R: Rows>(
     ensures answer { AnswersCause (λ _. change.exit.now) result
         (before_row_run context.now (R.rows rows.now) trigger.now change.entry.now) }
     ensures told { UnlessMemoryCause result (account.new ≡ and_told account.old
-        (ran_where_true (R.rows rows.now) trigger.now (change_frame change.entry.now))) }
+        (trigger_told (R.rows rows.now) trigger.now (change_frame change.entry.now))) }
 {
-    if fires(rows, trigger, change)? {
-        tell_at_row(trigger, change, account)?;
+    let when = when_at_row(rows, trigger, change)?;
+    tell_at_row(trigger, change, when, account)?;
+    if is_true(when) {
         run_body(alloc, context, rows, trigger, change)
     } else {
         Ok(())
@@ -283,8 +300,8 @@ fn run_all<R: Rows>(
 }
 
 /// Runs the BEFORE row triggers of a wave with these columns, in creation order, and gives its changes. The triggers
-/// see the tables with these rows, as they are before the wave. The account records each trigger that runs before its
-/// body does. Without a trigger on their tables, the call takes one look at each change.
+/// see the tables with these rows, as they are before the wave. The account records each trigger that runs, before its
+/// body does, and each that is skipped. Without a trigger on their tables, the call takes one look at each change.
 #[tactic(auto, using(crate::proofs::Untriggered::rows_untouched, crate::proofs::Untriggered::rows_untold))]
 pub fn before_rows<R: Rows>(
     alloc: Global,
@@ -315,13 +332,17 @@ pub fn before_rows<R: Rows>(
     )
 }
 
-// Whether the WHEN of a trigger takes effect if there is no row variable.
-fn fires_for_statement<R: Rows>(rows: &R, trigger: &Trigger) -> Result<bool, Cause>
-    ensures { result ≡ holds (scope_of no_frame (R.rows rows.now)) trigger.now.when }
+// The truth of a trigger's WHEN if there is no row variable.
+fn when_for_statement<R: Rows>(rows: &R, trigger: &Trigger) -> Result<Truth, Cause>
+    ensures effect { holds (scope_of no_frame (R.rows rows.now)) trigger.now.when
+        ≡ and_then result (λ t. Ok (is_true t)) }
+    ensures told { (tell : TruthValue → List Entry) → unless_refused
+        (truth (scope_of no_frame (R.rows rows.now)) trigger.now.when) tell
+        ≡ unless_refused result tell }
 {
     let frame = Frame::none();
     let scope = Scope::new(rows, &frame);
-    holds(&trigger.when, &scope)
+    truth_of_when(trigger, &scope)
 }
 
 fn is_signal(statement: &BodyStatement) -> bool
@@ -346,7 +367,7 @@ fn unless_signal(trigger: &Trigger) -> Result<(), Cause>
     Ok(())
 }
 
-// A BEFORE statement trigger, if its WHEN is true. That it runs is told before its body runs.
+// A BEFORE statement trigger, if its WHEN is true. That it runs, or is skipped, is told before its body runs.
 fn run_for_statement<R: Rows>(
     rows: &R,
     trigger: &Trigger,
@@ -356,13 +377,14 @@ fn run_for_statement<R: Rows>(
     ensures answer { AnswersCause (λ _. tt) result
         (before_statement_run (R.rows rows.now) trigger.now) }
     ensures told { UnlessMemoryCause result (account.new ≡ and_told account.old
-        (ran_where_true (R.rows rows.now) trigger.now no_frame)) }
+        (trigger_told (R.rows rows.now) trigger.now no_frame)) }
     ensures unasked { account.old.asked ≡ false
         → result ≡ before_statement_run (R.rows rows.now) trigger.now }
 {
-    if fires_for_statement(rows, trigger)? {
-        let frame = Frame::none();
-        account.ran(trigger, &frame)?;
+    let when = when_for_statement(rows, trigger)?;
+    let frame = Frame::none();
+    account.ran_or_skipped(trigger, &frame, when)?;
+    if is_true(when) {
         unless_signal(trigger)
     } else {
         Ok(())
@@ -374,7 +396,7 @@ fn run_named<R: Rows>(rows: &R, trigger: &Trigger, account: &mut Account) -> Res
     ensures answer { AnswersRefusal (λ _. tt) result
         (while_running trigger.now.id (before_statement_run (R.rows rows.now) trigger.now)) }
     ensures told { Records result account.old account.new
-        (ran_where_true (R.rows rows.now) trigger.now no_frame) }
+        (trigger_told (R.rows rows.now) trigger.now no_frame) }
     ensures unasked { account.old.asked ≡ false → result ≡ while_running trigger.now.id
         (before_statement_run (R.rows rows.now) trigger.now) }
 {
@@ -410,7 +432,7 @@ fn run_statement_triggers<R: Rows>(
         (filter (is_before_this statement.now) triggers.now) tt) }
     ensures told { Records result account.old account.new (told_in_turn
         (λ t _. while_running t.id (before_statement_run (R.rows rows.now) t))
-        (λ t _. ran_where_true (R.rows rows.now) t no_frame)
+        (λ t _. trigger_told (R.rows rows.now) t no_frame)
         (filter (is_before_this statement.now) triggers.now) tt) }
     ensures unasked { account.old.asked ≡ false → result ≡ in_turn
         (λ t _. while_running t.id (before_statement_run (R.rows rows.now) t))
@@ -429,9 +451,9 @@ fn run_statement_triggers<R: Rows>(
     }
 }
 
-/// Runs the BEFORE statement triggers of a statement, in creation order. The account records each trigger that runs
-/// before its body does. Without an account the call allocates nothing; on a table without triggers it takes constant
-/// time.
+/// Runs the BEFORE statement triggers of a statement, in creation order. The account records each trigger that runs,
+/// before its body does, and each that is skipped. Without an account the call allocates nothing; on a table without
+/// triggers it takes constant time.
 #[tactic(auto, using(crate::proofs::Untriggered::none_before_statement, crate::proofs::Untriggered::none_told_before_statement))]
 pub fn before_statement<R: Rows>(
     context: &Context<'_>,

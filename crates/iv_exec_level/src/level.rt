@@ -25,9 +25,10 @@ ghost use Rattle.iv_machine.specs.Proposals.{set_columns};
 ghost use Rattle.iv_exec_level.specs.Steps.{Finishes, Progresses, body_run_where_true, finished, firing_of, innermost, progress, waves_and_after};
 
 use crate::lent::{are_transitions, row_frame, statement_at, statement_frame, trigger_at};
-use crate::start::{LevelChanges, allowed, check, settle_waves, takes_effect};
+use crate::start::{LevelChanges, allowed, check, settle_waves, when_of};
 use iv_account::Account;
 use iv_catalogue::{BodyStatement, Catalogue, Cause, DataStatement, Refusal, Trigger, TriggerId};
+use iv_exec_before::is_true;
 use iv_exec_context::Context;
 use iv_exec_transitions::{Fires, Transitions, firings};
 use iv_expr::{Change, Frame, TableColumn};
@@ -152,7 +153,7 @@ fn run_body<K: ChangeableRows>(
     Ok(())
 }
 
-// The body of a trigger, if its WHEN is true. That the trigger runs is told before its body runs.
+// The body of a trigger, if its WHEN is true. That the trigger runs, or is skipped, is told before its body runs.
 #[cycle(level)]
 fn run_where_true<K: ChangeableRows>(
     store: &mut K,
@@ -177,13 +178,15 @@ fn run_where_true<K: ChangeableRows>(
         (firing_of trigger.now frame.now)
         (progress (K.view store.old).base budget.old)) }
 {
-    match takes_effect(&*store, trigger, &*frame) {
-        Ok(true) => {
-            account.ran(trigger, &*frame)?;
-            run_body(store, &*context, trigger, &*frame, deeper, budget, account)
-        }
-        Ok(false) => Ok(()),
-        Err(cause) => Err(Refusal::of(cause)),
+    let when = match when_of(&*store, trigger, &*frame) {
+        Ok(when) => when,
+        Err(cause) => return Err(Refusal::of(cause)),
+    };
+    account.ran_or_skipped(trigger, &*frame, when)?;
+    if is_true(when) {
+        run_body(store, &*context, trigger, &*frame, deeper, budget, account)
+    } else {
+        Ok(())
     }
 }
 

@@ -1,5 +1,8 @@
 //! What comes before and after the waves of a level.
-ghost use Rattle.std.specs.Prelude.{◌≡◌, true, IfOk, OnOk};
+ghost use Rattle.std.specs.Prelude.{◌≡◌, true, List, IfOk, Ok, OnOk};
+ghost use Rattle.iv_value.specs.declared.value.Truth.{Truth as TruthValue};
+ghost use Rattle.iv_value.specs.Truths.{is_true};
+ghost use Rattle.iv_expr.specs.Evaluation.{and_then, truth};
 ghost use Rattle.iv_expr.specs.Scopes.{scope_of};
 ghost use Rattle.iv_laws_levels.specs.FittingWaves.{Chain};
 ghost use Rattle.iv_machine.specs.declared.database.Database.{Database};
@@ -11,7 +14,8 @@ ghost use Rattle.iv_laws_rows.specs.Changing.{AnswersAt, StoreFits};
 ghost use Rattle.iv_exec_before.specs.Recording.{Records};
 ghost use Rattle.iv_exec_waves.specs.Applying.{Proposes};
 ghost use Rattle.iv_exec_waves.specs.Running.{LeavesStore};
-ghost use Rattle.iv_account.specs.Accounts.{check_told, waves_told};
+ghost use Rattle.iv_account.specs.declared.entry.Entry.{Entry};
+ghost use Rattle.iv_account.specs.Accounts.{check_told, unless_refused, waves_told};
 ghost use Rattle.iv_exec_level.specs.Firing.{MayBeParts};
 ghost use Rattle.iv_exec_waves.specs.Steps.{wave_with};
 ghost use Rattle.iv_exec_level.specs.Settled.{Settles, Tells};
@@ -19,14 +23,15 @@ ghost use Rattle.iv_exec_level.specs.Steps.{allowed_told, allowed_wave};
 
 use iv_account::Account;
 use iv_catalogue::{Cause, DataStatement, Refusal, Trigger};
-use iv_exec_before::{before_statement, set_columns};
-use iv_exec_context::{Context, holds};
+use iv_exec_before::{before_statement, set_columns, truth_of_when};
+use iv_exec_context::Context;
 use iv_exec_proposals::proposed;
 use iv_exec_transitions::{Transitions, level_columns, may_fire, transitions, transitions_of};
 use iv_exec_waves::settle;
 use iv_expr::{Change, Frame, Scope, TableColumn, Wave};
 use iv_machine::Which;
 use iv_store::ChangeableRows;
+use iv_value::Truth;
 use std::alloc::{AllocError, Global};
 
 /// What a statement proposes, unless a BEFORE statement trigger refuses it.
@@ -139,14 +144,18 @@ pub fn settle_waves<K: ChangeableRows>(
     Ok(level_changes(store.allocator(), context, statement, waves.as_slice())?)
 }
 
-/// Whether the WHEN of a trigger takes effect.
-pub fn takes_effect<'x, K: ChangeableRows>(
+/// The truth of a trigger's WHEN, which sees the store as it is.
+pub fn when_of<'x, K: ChangeableRows>(
     store: &'x K,
     trigger: &Trigger,
     frame: &'x Frame<'x>,
-) -> Result<bool, Cause>
-    ensures { result ≡ holds (scope_of frame.now (K.view store.now).base.rows) trigger.now.when }
+) -> Result<Truth, Cause>
+    ensures effect { holds (scope_of frame.now (K.view store.now).base.rows) trigger.now.when
+        ≡ and_then result (λ t. Ok (is_true t)) }
+    ensures told { (tell : TruthValue → List Entry) → unless_refused
+        (truth (scope_of frame.now (K.view store.now).base.rows) trigger.now.when) tell
+        ≡ unless_refused result tell }
 {
     let scope = Scope::new(store, frame);
-    holds(&trigger.when, &scope)
+    truth_of_when(trigger, &scope)
 }

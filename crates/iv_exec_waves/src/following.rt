@@ -6,7 +6,7 @@ ghost use Rattle.iv_machine.specs.Databases.{row_at};
 ghost use Rattle.iv_machine.specs.ReferentialActions.{following_wave};
 ghost use Rattle.iv_store.specs.Lookups.{foreign_keys};
 ghost use Rattle.iv_account.specs.declared.entry.Entry.TheVariants as entry;
-ghost use Rattle.iv_account.specs.Accounts.{acted_told, action_fault_told, following_told, if_some};
+ghost use Rattle.iv_account.specs.Accounts.{acted_told, action_fault_told, conflict_told, disagreement_at, following_told, if_some};
 ghost use Rattle.iv_account.specs.Telling.{and_told};
 ghost use Rattle.iv_exec_before.specs.Recording.{Records};
 ghost use Rattle.iv_laws_kept.specs.FollowingWaves.{LedTo};
@@ -14,7 +14,7 @@ ghost use Rattle.iv_exec_actions.specs.Answers.{AnswersWave};
 
 use iv_account::Account;
 use iv_catalogue::{Catalogue, Cause, Fault, Refusal};
-use iv_exec_actions::{next_wave, row_actions, row_then};
+use iv_exec_actions::{disagreement_at, next_wave, row_actions, row_then};
 use iv_expr::Wave;
 use iv_store::ReferencingRows;
 use std::alloc::AllocError;
@@ -40,8 +40,8 @@ fn tell_actions<K: ReferencingRows>(
     account.acted(actions)
 }
 
-// Tells a row for which what follows a wave is refused, as it was before the wave.
-fn tell_row<K: ReferencingRows>(
+// Tells a row that refers to a key which RESTRICT protects, as it was before the wave.
+fn tell_restricted<K: ReferencingRows>(
     store: &K,
     wave: &Wave,
     fault: &Fault,
@@ -60,9 +60,32 @@ fn tell_row<K: ReferencingRows>(
     account.faulted(*fault, rows)
 }
 
+// Tells a row about which two foreign keys disagree, as it was before the wave, and how they do.
+fn tell_conflict<K: ReferencingRows>(
+    store: &K,
+    catalogue: &Catalogue,
+    wave: &Wave,
+    fault: &Fault,
+    account: &mut Account,
+) -> Result<(), AllocError>
+    ensures told { (before : Database)
+        → LedTo before wave.now.changes (K.view store.now).base
+        → OnOk result (account.new ≡ and_told account.old
+        (conflict_told fault.now (if_some (row_at before.rows fault.now.row))
+        (disagreement_at catalogue.now before.rows (K.view store.now).base.rows fault.now) ∷ [])) }
+    ensures unasked { account.old.asked ≡ false → result ≡ Ok tt }
+{
+    if !account.is_asked() {
+        return Ok(());
+    }
+    let how = disagreement_at(store, catalogue, wave, fault)?;
+    account.disagreed(*fault, row_then(store, wave, fault.row)?, how)
+}
+
 // Tells the row of a refusal for RESTRICT, or for two foreign keys that disagree.
 fn tell_refusal<K: ReferencingRows>(
     store: &K,
+    catalogue: &Catalogue,
     wave: &Wave,
     cause: &Cause,
     account: &mut Account,
@@ -70,12 +93,13 @@ fn tell_refusal<K: ReferencingRows>(
     ensures told { (before : Database)
         → LedTo before wave.now.changes (K.view store.now).base
         → OnOk result (account.new ≡ and_told account.old
-        (action_fault_told before.rows cause.now)) }
+        (action_fault_told catalogue.now
+        before.rows (K.view store.now).base.rows cause.now)) }
     ensures unasked { account.old.asked ≡ false → result ≡ Ok tt }
 {
     match cause {
-        Cause::Restrict(fault) => tell_row(store, wave, fault, account),
-        Cause::ActionConflict(fault) => tell_row(store, wave, fault, account),
+        Cause::Restrict(fault) => tell_restricted(store, wave, fault, account),
+        Cause::ActionConflict(fault) => tell_conflict(store, catalogue, wave, fault, account),
         _ => Ok(()),
     }
 }
@@ -108,7 +132,7 @@ pub fn next_wave_told<K: ReferencingRows>(
             Ok(next)
         }
         Err(refusal) => {
-            tell_refusal(store, wave, &refusal.cause, account)?;
+            tell_refusal(store, catalogue, wave, &refusal.cause, account)?;
             Err(refusal)
         }
     }

@@ -3,3 +3,4 @@ pub mod SpelledLemmas
 pub mod Trees
 pub mod Computed
 pub mod ComputedNames
+pub mod ComputedColumns

@@ -3,7 +3,9 @@ pub mod Expressions
 pub mod Names
 pub mod JsonNames
 pub mod Reasons
+pub mod Columns
 pub mod Explanations
 pub mod Seen
 pub mod WorkedReasons
 pub mod WorkedNames
+pub mod WorkedColumns

@@ -1,6 +1,7 @@
-//! What is told of a refused statement besides its cause: the name at fault, or the reason.
+//! What is told of a refused statement besides its cause: the name at fault, or the reason. And the columns of a query.
 #![tactic(auto)]
 
+mod columns;
 mod counts;
 mod explaining;
 mod expressions;
@@ -19,7 +20,10 @@ mod spelled;
 mod words;
 mod worked;
 
+pub use columns::{write_columns_line, write_columns_member};
 pub use explaining::{Explanation, Why, explained};
 pub use json::write_explained_member;
 pub use line::write_explained_line;
-pub use worked::{worked_causes, worked_limits, worked_names, worked_rules, worked_shapes};
+pub use worked::{
+    worked_causes, worked_columns, worked_limits, worked_names, worked_rules, worked_shapes,
+};

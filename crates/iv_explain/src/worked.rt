@@ -1,4 +1,5 @@
 //! Worked texts, as the contracts of functions that do nothing.
+ghost use Rattle.iv_explain.specs.WorkedColumns.{WorkedColumns};
 ghost use Rattle.iv_explain.specs.WorkedNames.{WorkedNames};
 ghost use Rattle.iv_explain.specs.WorkedReasons.{WorkedCauses, WorkedLimits, WorkedRules, WorkedShapes};
 
@@ -25,4 +26,9 @@ pub fn worked_limits()
 /// What is told of statements, each for its cause.
 pub fn worked_causes()
     ensures { WorkedCauses }
+{}
+
+/// The columns of queries.
+pub fn worked_columns()
+    ensures { WorkedColumns }
 {}

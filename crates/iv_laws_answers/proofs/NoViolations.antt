@@ -71,7 +71,7 @@ each_apart cause f h xs = each_without (λ e. is_violation (cause e)) f xs (λ x
 
 -- ---- values and conditions
 
-fault_apart : (fault : ExprFault) → is_violation (cause_of fault) ≡ false
+pub fault_apart : (fault : ExprFault) → is_violation (cause_of fault) ≡ false
 fault_apart OutOfRange = refl
 fault_apart IllTyped = refl
 fault_apart NoMemory = refl

@@ -4,9 +4,14 @@ use Rattle.iv_expr.specs.declared.row.StoredRow.{StoredRow}
 use Rattle.iv_expr.specs.declared.row.Change.{Change}
 use Rattle.iv_expr.specs.declared.wave.TableColumn.{TableColumn}
 use Rattle.iv_expr.specs.Changes.{Wave}
-use Rattle.iv_expr.specs.Evaluation.{and_then}
+use Rattle.iv_value.specs.declared.value.Truth.{Truth}
+use Rattle.iv_value.specs.declared.value.Truth.TheVariants.{False, Unknown, True}
+use Rattle.iv_value.specs.Truths.{is_true}
+use Rattle.iv_expr.specs.declared.tree.ExprFault.{ExprFault}
+use Rattle.iv_expr.specs.Evaluation.{and_then, truth}
 use Rattle.iv_expr.specs.Scopes.{Frame, no_frame, scope_of}
 use Rattle.iv_catalogue.specs.Catalogues.{Schema}
+use Rattle.iv_catalogue.specs.Refusals.{cause_of}
 use Rattle.iv_catalogue.specs.declared.cause.Cause.{Cause}
 use Rattle.iv_catalogue.specs.declared.cause.Cause.TheVariants.{Restrict, Violation, ActionConflict}
 use Rattle.iv_catalogue.specs.declared.cause.Fault.{Fault}
@@ -18,7 +23,7 @@ use Rattle.iv_catalogue.specs.declared.plan.Trigger.{Trigger}
 use Rattle.iv_machine.specs.declared.database.Database.{Database}
 use Rattle.iv_machine.specs.declared.database.Which.TheVariants.{Immediate}
 use Rattle.iv_machine.specs.Bounds.{most_changes_in_a_transaction}
-use Rattle.iv_machine.specs.Databases.{scan, is_chosen, first, size, database_after}
+use Rattle.iv_machine.specs.Databases.{row_at, scan, is_chosen, first, size, database_after}
 use Rattle.iv_machine.specs.Context.{Context, Failure, over, unless_first, while_running, with_count, inside_trigger, each, in_turn}
 use Rattle.iv_machine.specs.Proposals.{holds, proposed_wave}
 use Rattle.iv_machine.specs.BeforeTriggers.{is_before_row_on, is_before_this, is_on, event_of_change, placed_statements, before_statement_run, before_statement, change_frame, change_after_trigger}
@@ -27,11 +32,12 @@ use Rattle.iv_machine.specs.Waves.{numbered_wave, is_beyond_last_row, wave_as_ap
 use Rattle.iv_machine.specs.Levels.{Firing, Finished, Progress, Runs, statement_run, body_run, firing_run, firings_run, level_columns, firings, immediate_check, level_steps, nested_level, level}
 use Rattle.iv_machine.specs.Machine.{level_outcome, context_of}
 use Rattle.iv_account.specs.declared.entry.Entry.{Entry}
+use Rattle.iv_account.specs.declared.entry.Disagreement.{Disagreement}
 use Rattle.iv_account.specs.declared.entry.Entry.TheVariants.{Changed, Began, Ended}
-use Rattle.iv_account.specs.Accounts.{unless_refused, if_some, told_each, told_in_turn, fault_told, action_fault_told, ran, ran_where_true, before_statement_told, before_row_told, before_each_told, before_rows_told, entered_told, acted_told, following_told, applied_told, one_wave_told, TellsWaves, waves_told_by, no_waves_told, waves_told_within, waves_told, Tells, statement_told, body_told, firing_told, firings_told, finished_told, waves_and_after_told, level_steps_told, nested_told, account}
+use Rattle.iv_account.specs.Accounts.{unless_refused, if_some, told_each, told_in_turn, fault_told, disagreement_at, conflict_told, action_fault_told, ran, ran_or_skipped, trigger_told, before_statement_told, before_row_told, before_each_told, before_rows_told, entered_told, acted_told, following_told, applied_told, one_wave_told, TellsWaves, waves_told_by, no_waves_told, waves_told_within, waves_told, Tells, statement_told, body_told, fired_told, firing_told, firings_told, finished_told, waves_and_after_told, level_steps_told, nested_told, account}
 use Rattle.iv_account.specs.Sessions.{change_told}
 use Rattle.iv_laws_answers.specs.AccountLaws.{after_entry, database_told, running_after, running_told, violation_of, violation_in, violations_told, last_violation, EndsIn, LevelsAreTold, StatementsAreTold, AllThatBeginsEnds, NoViolationOfAccepted, OneViolationOfRefused}
-use Rattle.iv_laws_answers.proofs.NoViolations.{ApartCause, ApartRefusal, ApartFailure, no_violation, holds_apart, proposed_apart, before_statement_apart, applied_apart}
+use Rattle.iv_laws_answers.proofs.NoViolations.{ApartCause, ApartRefusal, ApartFailure, no_violation, fault_apart, proposed_apart, before_statement_apart, applied_apart}
 
 -- ---- entries after entries
 
@@ -117,6 +123,13 @@ over_apart : {A B : Type 0} (later : B → Database) (db : Database) (r : Result
 over_apart later db (Ok a) ys k h more = more a
 over_apart later db (Err cause) ys k h more = nothing_ends cause (no_violation cause h)
 
+-- a condition, which tells by its truth
+when_apart : {B : Type 0} (later : B → Database) (db : Database) (r : Result Truth ExprFault) (ys : Truth → List Entry) (k : Bool → Result B Failure)
+    → ((t : Truth) → TellOf later db (ys t) (k (is_true t)))
+    → TellOf later db (unless_refused r ys) (and_then (over db (elim r as (λ _. Result Bool Cause) [ Ok t ↦ Ok (is_true t) | Err fault ↦ Err (cause_of fault) ])) k)
+when_apart later db (Ok t) ys k more = more t
+when_apart later db (Err fault) ys k more = nothing_ends (cause_of fault) (no_violation (cause_of fault) (fault_apart fault))
+
 counted_apart : {A B : Type 0} (later : B → Database) (db : Database) (r : Result A Refusal) (ys : A → List Entry) (k : A → Result B Failure)
     → ApartRefusal r → ((a : A) → TellOf later db (ys a) (k a)) → TellOf later db (unless_refused r ys) (and_then (with_count db r) k)
 counted_apart later db (Ok a) ys k h more = more a
@@ -158,23 +171,24 @@ quiet_each f tell h (x ∷ xs) =
     λ db. lead_on db db db (tell x) (unless_refused (f x) (λ _. told_each f tell xs)) (h x db)
     (quiet_unless (f x) (λ _. told_each f tell xs) (λ _. quiet_each f tell h xs) db)
 
-quiet_ran : (rows : List StoredRow) (t : Trigger) (frame : Frame) → Quiet (ran_where_true rows t frame)
-quiet_ran rows t frame = quiet_unless (holds (scope_of frame rows) t.when) (λ fires. if fires then ran t frame ∷ [] else []) by
-  where
-    by : (fires : Bool) → Quiet (if fires then ran t frame ∷ [] else [])
-    by true = λ db. record { database = refl; ended = λ n. refl; none = refl; last = refl }
-    by false = leads_nowhere
+quiet_asked : (t : Trigger) (frame : Frame) (when : Truth) → Quiet (ran_or_skipped t frame when ∷ [])
+quiet_asked t frame True = λ db. record { database = refl; ended = λ n. refl; none = refl; last = refl }
+quiet_asked t frame False = λ db. record { database = refl; ended = λ n. refl; none = refl; last = refl }
+quiet_asked t frame Unknown = λ db. record { database = refl; ended = λ n. refl; none = refl; last = refl }
+
+quiet_trigger : (rows : List StoredRow) (t : Trigger) (frame : Frame) → Quiet (trigger_told rows t frame)
+quiet_trigger rows t frame = quiet_unless (truth (scope_of frame rows) t.when) (λ when. ran_or_skipped t frame when ∷ []) (quiet_asked t frame)
 
 quiet_before_statement : (w : Context) (rows : List StoredRow) (d : DataStatement) → Quiet (before_statement_told w rows d)
 quiet_before_statement w rows d =
-    quiet_turns (λ t _. while_running t.id (before_statement_run rows t)) (λ t _. ran_where_true rows t no_frame)
-    (λ t _. quiet_ran rows t no_frame) (filter (is_before_this d) w.schema.triggers) tt
+    quiet_turns (λ t _. while_running t.id (before_statement_run rows t)) (λ t _. trigger_told rows t no_frame)
+    (λ t _. quiet_trigger rows t no_frame) (filter (is_before_this d) w.schema.triggers) tt
 
 quiet_before_row : (rows : List StoredRow) (t : Trigger) (c : Change) → Quiet (before_row_told rows t c)
 quiet_before_row rows t c = by (is_on c.table (event_of_change c) t)
   where
-    by : (on : Bool) → Quiet (if on then ran_where_true rows t (change_frame c) else [])
-    by true = quiet_ran rows t (change_frame c)
+    by : (on : Bool) → Quiet (if on then trigger_told rows t (change_frame c) else [])
+    by true = quiet_trigger rows t (change_frame c)
     by false = leads_nowhere
 
 quiet_before_rows : (w : Context) (rows : List StoredRow) (columns : List TableColumn) (changes : List Change) → Quiet (before_rows_told w rows columns changes)
@@ -217,11 +231,15 @@ following_tells w db applied =
         → TellOf (after_one db) (database_after db applied)
         (elim (unless_first later Restrict restricted (unless_first later ActionConflict conflicting (Ok next))) as (λ _. List Entry) [
           | Ok n ↦ acted_told w.schema db.rows later.rows n.changes
-          | Err failure ↦ action_fault_told db.rows failure.cause
+          | Err failure ↦ action_fault_told w.schema db.rows later.rows failure.cause
         ])
         (and_then (unless_first later Restrict restricted (unless_first later ActionConflict conflicting (Ok next))) (λ n. Ok (record { wave = applied; next = n })))
     by later [] [] next = quiet_acted w.schema db.rows later.rows next.changes (database_after db applied)
-    by later [] (f ∷ faults) next = record { once = refl; last = refl }
+    by later [] (f ∷ faults) next = conflict_ends f (if_some (row_at db.rows f.row)) (disagreement_at w.schema db.rows later.rows f)
+      where
+        conflict_ends : (fault : Fault) (rows : List StoredRow) (how : Option Disagreement) → EndsIn (ActionConflict fault) (conflict_told fault rows how ∷ [])
+        conflict_ends fault rows (Some d) = record { once = refl; last = refl }
+        conflict_ends fault rows None = record { once = refl; last = refl }
     by later (f ∷ faults) conflicting next = record { once = refl; last = refl }
 
 applied_tells : (w : Context) (db : Database) (applied : Wave) → TellOf (after_one db) db (applied_told w db applied) (then_next w db applied)
@@ -305,26 +323,23 @@ module _ (w : Context) (run : Runs) (tell : Tells) (tells : RunsTell tell run) w
   statement_tells x place (body.Signal text) at = record { once = refl; last = refl }
   statement_tells x place (body.Set s) at = leads_nowhere at.database
 
-  body_tells : (x : Firing) (fires : Bool) (at : Progress)
-      → TellOf at_of at.database
-      (if fires then ran x.trigger x.frame ∷ body_told run tell x (placed_statements x.trigger) at else [])
-      (if fires then body_run run x (placed_statements x.trigger) at else Ok at)
-  body_tells x true at =
+  body_tells : (x : Firing) (when : Truth) (at : Progress)
+      → TellOf at_of at.database (fired_told run tell x at when) (if is_true when then body_run run x (placed_statements x.trigger) at else Ok at)
+  body_tells x True at =
       after_these at_of at.database at.database (ran x.trigger x.frame ∷ []) (body_told run tell x (placed_statements x.trigger) at)
       (body_run run x (placed_statements x.trigger) at) (record { database = refl; ended = λ n. refl; none = refl; last = refl })
       (turns_told at_of (λ s. statement_run run x s.0 s.1) (λ s. statement_told run tell x s.0 s.1)
       (λ s between. statement_tells x s.0 s.1 between) (placed_statements x.trigger) at)
-  body_tells x false at = leads_nowhere at.database
+  body_tells x False at = record { database = refl; ended = λ n. refl; none = refl; last = refl }
+  body_tells x Unknown at = record { database = refl; ended = λ n. refl; none = refl; last = refl }
 
   firing_tells : (x : Firing) (at : Progress) → TellOf at_of at.database (firing_told run tell x at) (firing_run run x at)
   firing_tells x at =
       inside_told at_of at.database (firing_told run tell x at) x.trigger.id
       (and_then (over at.database (holds (scope_of x.frame at.database.rows) x.trigger.when)) (λ fires.
       if fires then body_run run x (placed_statements x.trigger) at else Ok at))
-      (over_apart at_of at.database (holds (scope_of x.frame at.database.rows) x.trigger.when)
-      (λ fires. if fires then ran x.trigger x.frame ∷ body_told run tell x (placed_statements x.trigger) at else [])
-      (λ fires. if fires then body_run run x (placed_statements x.trigger) at else Ok at)
-      (holds_apart (scope_of x.frame at.database.rows) x.trigger.when) (λ fires. body_tells x fires at))
+      (when_apart at_of at.database (truth (scope_of x.frame at.database.rows) x.trigger.when) (fired_told run tell x at)
+      (λ fires. if fires then body_run run x (placed_statements x.trigger) at else Ok at) (λ when. body_tells x when at))
 
   abbrev fired : DataStatement → Database → SettledWaves → List Firing
   fired d db s = firings w d (level_columns d s.waves) (net_wave db.rows s.last.rows s.waves)

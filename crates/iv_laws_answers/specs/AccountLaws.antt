@@ -14,7 +14,7 @@ use Rattle.iv_machine.specs.Context.{Context, Failure}
 use Rattle.iv_machine.specs.Levels.{Finished, level}
 use Rattle.iv_machine.specs.Machine.{State, change_outcome}
 use Rattle.iv_account.specs.declared.entry.Entry.{Entry}
-use Rattle.iv_account.specs.declared.entry.Entry.TheVariants.{Changed, Began, Ended, Faulted}
+use Rattle.iv_account.specs.declared.entry.Entry.TheVariants.{Changed, Began, Ended, Faulted, Disagreed}
 use Rattle.iv_account.specs.Accounts.{if_some, account}
 use Rattle.iv_account.specs.Sessions.{change_told}
 
@@ -77,6 +77,7 @@ violation_of _ = None
 -- the violation that an entry tells
 abbrev pub violation_in : Entry → Option Fault
 violation_in (Faulted fault rows) = Some fault
+violation_in (Disagreed fault rows how) = Some fault
 violation_in _ = None
 
 -- all violations that entries tell

@@ -4,7 +4,7 @@ use Rattle.iv_catalogue.specs.Catalogues.{Schema}
 use Rattle.iv_catalogue.specs.declared.cause.Refusal.{Refusal}
 use Rattle.iv_machine.specs.declared.answer.Answer.{Answer}
 use Rattle.iv_account.specs.declared.entry.Entry.{Entry}
-use Rattle.iv_account.specs.declared.entry.Entry.TheVariants.{Changed, Acted, Ran, Began, Ended, Faulted}
+use Rattle.iv_account.specs.declared.entry.Entry.TheVariants.{Changed, Acted, Ran, Skipped, Began, Ended, Faulted, Disagreed}
 use Rattle.iv_print.specs.AccountLines.{spaces, depth_after, entry_text, entries_text}
 
 pub spaces_step : (depth : ℕ) → 0 < depth → spaces depth ≡ codes "  " ++ spaces (depth - 1)
@@ -16,9 +16,11 @@ pub depth_grows : (depth : ℕ) (entry : Entry) → depth_after depth entry ≤ 
 depth_grows depth (Changed changes) = omega arith
 depth_grows depth (Acted actions) = omega arith
 depth_grows depth (Ran id seen) = omega arith
+depth_grows depth (Skipped id seen) = omega arith
 depth_grows depth (Began place) = omega arith
 depth_grows depth Ended = omega arith
 depth_grows depth (Faulted fault rows) = omega arith
+depth_grows depth (Disagreed fault rows how) = omega arith
 
 pub depth_bounded : (depth most : ℕ) (entry : Entry) (all rest : List Entry) → depth + length all ≤ most → all ≡ entry ∷ rest
     → depth_after depth entry + length rest ≤ most
@@ -29,7 +31,7 @@ depth_bounded depth most entry all rest bound is =
 
 pub entries_step : (s : Schema) (outcome : Result Answer Refusal) (depth next : ℕ) (entry : Entry) (all rest : List Entry)
     → all ≡ entry ∷ rest → next ≡ depth_after depth entry
-    → entries_text s outcome depth all ≡ entry_text s outcome depth entry ++ entries_text s outcome next rest
+    → entries_text s outcome depth all ≡ entry_text s outcome depth entry rest ++ entries_text s outcome next rest
 entries_step s outcome depth next entry all rest is after =
     ap (entries_text s outcome depth) is
-    ∙ ap (λ d. entry_text s outcome depth entry ++ entries_text s outcome d rest) (sym after)
+    ∙ ap (λ d. entry_text s outcome depth entry rest ++ entries_text s outcome d rest) (sym after)

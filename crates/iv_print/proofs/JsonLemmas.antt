@@ -13,9 +13,9 @@ ends_step (suc depth) some = ap (λ d. codes "]}" ++ ends d) (omega arith)
 
 pub entries_step : (s : Schema) (outcome : Result Answer Refusal) (depth next : ℕ) (first later : Bool) (entry : Entry) (all rest : List Entry)
     → all ≡ entry ∷ rest → next ≡ depth_after depth entry → later ≡ begins entry
-    → json_entries s outcome depth first all ≡ (separator first entry ++ json_entry s outcome entry) ++ json_entries s outcome next later rest
+    → json_entries s outcome depth first all ≡ (separator first entry ++ json_entry s outcome entry rest) ++ json_entries s outcome next later rest
 entries_step s outcome depth next first later entry all rest is after begun =
     ap (json_entries s outcome depth first) is
-    ∙ ap (λ d. separator first entry ++ (json_entry s outcome entry ++ json_entries s outcome d (begins entry) rest)) (sym after)
-    ∙ ap (λ b. separator first entry ++ (json_entry s outcome entry ++ json_entries s outcome next b rest)) (sym begun)
-    ∙ sym (append_assoc (separator first entry) (json_entry s outcome entry) (json_entries s outcome next later rest))
+    ∙ ap (λ d. separator first entry ++ (json_entry s outcome entry rest ++ json_entries s outcome d (begins entry) rest)) (sym after)
+    ∙ ap (λ b. separator first entry ++ (json_entry s outcome entry rest ++ json_entries s outcome next b rest)) (sym begun)
+    ∙ sym (append_assoc (separator first entry) (json_entry s outcome entry rest) (json_entries s outcome next later rest))

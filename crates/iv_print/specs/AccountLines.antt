@@ -1,7 +1,9 @@
 -- The lines of an account, after those of the outcome.
-use Rattle.std.specs.Prelude.{ℕ, zero, suc, ◌-◌, if◌then◌else◌, List, [], ◌∷◌, ◌++◌, codes, decimal, slice_get, Option, Some, None, Result, Ok, Err}
+use Rattle.std.specs.Prelude.{ℕ, zero, suc, ◌-◌, Bool, true, false, if◌then◌else◌, List, [], ◌∷◌, ◌++◌, codes, decimal, slice_get, Option, Some, None, Result, Ok, Err}
 use Rattle.std.specs.List.{flat_map}
 use Rattle.iv_value.specs.declared.value.Value.{Value}
+use Rattle.iv_value.specs.declared.value.Truth.{Truth}
+use Rattle.iv_value.specs.declared.value.Truth.TheVariants.{False, Unknown, True}
 use Rattle.iv_key.specs.Keys.{key_of, none_null}
 use Rattle.iv_expr.specs.declared.row.StoredRow.{StoredRow}
 use Rattle.iv_expr.specs.declared.row.Change.{Change}
@@ -23,9 +25,11 @@ use Rattle.iv_machine.specs.declared.answer.Answer.{Answer}
 use Rattle.iv_machine.specs.BeforeTriggers.{event_of_change}
 use Rattle.iv_account.specs.declared.entry.RowAction.{RowAction}
 use Rattle.iv_account.specs.declared.entry.TriggerView.{TriggerView}
+use Rattle.iv_account.specs.declared.entry.SkippedView.{SkippedView}
+use Rattle.iv_account.specs.declared.entry.Disagreement.{Disagreement}
 use Rattle.iv_account.specs.declared.entry.Entry.{Entry}
-use Rattle.iv_account.specs.declared.entry.Entry.TheVariants.{Changed, Acted, Ran, Began, Ended, Faulted}
-use Rattle.iv_print.specs.Lines.{values_text, name_of, trigger_text, row_number_text}
+use Rattle.iv_account.specs.declared.entry.Entry.TheVariants.{Changed, Acted, Ran, Skipped, Began, Ended, Faulted, Disagreed}
+use Rattle.iv_print.specs.Lines.{value_text, values_text, name_of, trigger_text, row_number_text}
 
 -- two spaces for each
 abbrev pub spaces : ℕ → List ℕ
@@ -108,18 +112,33 @@ action_lines s depth actions = flat_map (action_line s depth) actions
 
 -- ---- triggers
 
--- A trigger with the rows that it saw, and one deeper a line for each change that it saw.
+-- a trigger with the rows that it saw
+abbrev pub asked_text : Schema → ℕ → ℕ → Option (List Value) → Option (List Value) → List ℕ
+asked_text s depth id old new =
+    indent depth ++ (codes "trigger" ++ (trigger_text s id ++ (side_text (codes " OLD") old ++ side_text (codes " NEW") new)))
+
+-- one that runs, and one deeper a line for each change that it saw
 abbrev pub ran_lines : Schema → ℕ → ℕ → TriggerView → List ℕ
 ran_lines s depth id seen =
-    indent depth
-    ++ (codes "trigger"
-    ++ (trigger_text s id
-    ++ (side_text (codes " OLD") seen.old
-    ++ (side_text (codes " NEW") seen.new
-    ++ (codes "\n" ++ change_lines s depth (codes "  saw ") seen.transition)))))
+    asked_text s depth id seen.old seen.new ++ (codes "\n" ++ change_lines s depth (codes "  saw ") seen.transition)
 
-abbrev pub began_line : ℕ → ℕ → List ℕ
-began_line depth place = indent depth ++ (codes "statement " ++ (decimal place ++ codes "\n"))
+abbrev pub truth_name : Truth → List ℕ
+truth_name False = codes "false"
+truth_name Unknown = codes "unknown"
+truth_name True = codes "true"
+
+-- one that is skipped
+abbrev pub skipped_line : Schema → ℕ → ℕ → SkippedView → List ℕ
+skipped_line s depth id seen =
+    asked_text s depth id seen.old seen.new ++ (codes " skipped: WHEN is " ++ (truth_name seen.when ++ codes "\n"))
+
+-- a statement that ends as it begins
+abbrev pub nothing_text : Bool → List ℕ
+nothing_text true = codes " changes nothing"
+nothing_text false = []
+
+abbrev pub began_line : ℕ → ℕ → Bool → List ℕ
+began_line depth place nothing = indent depth ++ (codes "statement " ++ (decimal place ++ (nothing_text nothing ++ codes "\n")))
 
 -- ---- faults
 
@@ -183,16 +202,60 @@ fault_line s outcome depth constraint rows =
     ++ (name_of (slice_get s.constraints constraint)
     ++ (codes ": " ++ (fault_rows_text s outcome (slice_get s.constraints constraint) rows ++ codes "\n")))
 
+-- ---- foreign keys that disagree
+
+-- the key to which a row of these values refers by a rule, if that is a foreign key
+abbrev pub rule_refers_text : Schema → List Value → Rule → List ℕ
+rule_refers_text s values (rule.ForeignKey k) = referenced_text s values k
+rule_refers_text s values _ = []
+
+-- so by a constraint that is there
+abbrev pub refers_text : Schema → List Value → Option Constraint → List ℕ
+refers_text s values (Some k) = rule_refers_text s values k.rule
+refers_text s values None = []
+
+-- what the earlier foreign key sets a column of the table to, and what this one does
+abbrev pub settings_text : Schema → ℕ → ℕ → Disagreement → List ℕ
+settings_text s table constraint how =
+    codes ", and "
+    ++ (name_of (slice_get s.constraints how.earlier)
+    ++ (codes " sets "
+    ++ (column_name_in (slice_get s.tables table) how.column
+    ++ (codes " to "
+    ++ (value_text how.earlier_value
+    ++ (codes ", where "
+    ++ (name_of (slice_get s.constraints constraint) ++ (codes " sets it to " ++ value_text how.value))))))))
+
+-- the first of the rows, the key to which it refers, and how the two foreign keys disagree
+abbrev pub conflict_text : Schema → ℕ → List StoredRow → Disagreement → List ℕ
+conflict_text s constraint [] how = []
+conflict_text s constraint (row ∷ others) how =
+    numbered_text s row.table row.number
+    ++ (listed_text row.values
+    ++ (refers_text s row.values (slice_get s.constraints constraint) ++ settings_text s row.table constraint how))
+
+abbrev pub conflict_line : Schema → ℕ → ℕ → List StoredRow → Disagreement → List ℕ
+conflict_line s depth constraint rows how =
+    indent depth
+    ++ (name_of (slice_get s.constraints constraint) ++ (codes ": " ++ (conflict_text s constraint rows how ++ codes "\n")))
+
 -- ---- entries
 
--- the lines of an entry at this depth
-abbrev pub entry_text : Schema → Result Answer Refusal → ℕ → Entry → List ℕ
-entry_text s outcome depth (Changed changes) = change_lines s depth [] changes
-entry_text s outcome depth (Acted actions) = action_lines s depth actions
-entry_text s outcome depth (Ran id seen) = ran_lines s depth id seen
-entry_text s outcome depth (Began place) = began_line depth place
-entry_text s outcome depth Ended = []
-entry_text s outcome depth (Faulted fault rows) = fault_line s outcome depth fault.constraint rows
+-- the next of these entries is an end
+abbrev pub ends_next : List Entry → Bool
+ends_next (Ended ∷ entries) = true
+ends_next _ = false
+
+-- the lines of an entry at this depth, before these further entries
+abbrev pub entry_text : Schema → Result Answer Refusal → ℕ → Entry → List Entry → List ℕ
+entry_text s outcome depth (Changed changes) further = change_lines s depth [] changes
+entry_text s outcome depth (Acted actions) further = action_lines s depth actions
+entry_text s outcome depth (Ran id seen) further = ran_lines s depth id seen
+entry_text s outcome depth (Skipped id seen) further = skipped_line s depth id seen
+entry_text s outcome depth (Began place) further = began_line depth place (ends_next further)
+entry_text s outcome depth Ended further = []
+entry_text s outcome depth (Faulted fault rows) further = fault_line s outcome depth fault.constraint rows
+entry_text s outcome depth (Disagreed fault rows how) further = conflict_line s depth fault.constraint rows how
 
 -- The data statement that begins is one deeper, up to its end.
 abbrev pub depth_after : ℕ → Entry → ℕ
@@ -204,7 +267,7 @@ depth_after depth _ = depth
 abbrev pub entries_text : Schema → Result Answer Refusal → ℕ → List Entry → List ℕ
 entries_text s outcome depth [] = []
 entries_text s outcome depth (entry ∷ entries) =
-    entry_text s outcome depth entry ++ entries_text s outcome (depth_after depth entry) entries
+    entry_text s outcome depth entry entries ++ entries_text s outcome (depth_after depth entry) entries
 
 -- The lines of the account of a statement with this outcome, with names as the catalogue has them after it.
 abbrev pub account_text : Schema → Result Answer Refusal → List Entry → List ℕ

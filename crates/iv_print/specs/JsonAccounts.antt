@@ -21,11 +21,13 @@ use Rattle.iv_machine.specs.declared.answer.Answer.{Answer}
 use Rattle.iv_machine.specs.BeforeTriggers.{event_of_change}
 use Rattle.iv_account.specs.declared.entry.RowAction.{RowAction}
 use Rattle.iv_account.specs.declared.entry.TriggerView.{TriggerView}
+use Rattle.iv_account.specs.declared.entry.SkippedView.{SkippedView}
+use Rattle.iv_account.specs.declared.entry.Disagreement.{Disagreement}
 use Rattle.iv_account.specs.declared.entry.Entry.{Entry}
-use Rattle.iv_account.specs.declared.entry.Entry.TheVariants.{Changed, Acted, Ran, Began, Ended, Faulted}
+use Rattle.iv_account.specs.declared.entry.Entry.TheVariants.{Changed, Acted, Ran, Skipped, Began, Ended, Faulted, Disagreed}
 use Rattle.iv_print.specs.Lines.{name_of, trigger_name}
-use Rattle.iv_print.specs.AccountLines.{column_name_in, depth_after, table_name}
-use Rattle.iv_print.specs.Json.{json_row, json_text, json_values, key, member}
+use Rattle.iv_print.specs.AccountLines.{column_name_in, depth_after, ends_next, table_name, truth_name}
+use Rattle.iv_print.specs.Json.{json_row, json_text, json_value, json_values, key, member}
 
 -- ---- rows and changes
 
@@ -153,6 +155,35 @@ violation_members s outcome constraint (row ∷ others) =
     place_members s row.table row.number
     ++ (member (codes "values") ++ (json_row row.values ++ constraint_rule_members s outcome row others constraint))
 
+-- ---- foreign keys that disagree
+
+-- why, and the key to which a row of these values refers by a rule, if that is a foreign key
+abbrev pub rule_refers_members : Schema → List Value → Rule → List ℕ
+rule_refers_members s values (rule.ForeignKey k) = because (codes "action_conflict") ++ referenced_members s values k
+rule_refers_members s values _ = []
+
+-- so by a constraint that is there
+abbrev pub refers_members : Schema → List Value → Option Constraint → List ℕ
+refers_members s values (Some k) = rule_refers_members s values k.rule
+refers_members s values None = []
+
+-- the earlier foreign key, the column of the table, and what this one and that one set it to
+abbrev pub settings_members : Schema → ℕ → Disagreement → List ℕ
+settings_members s table how =
+    member (codes "other_constraint")
+    ++ (json_text (name_of (slice_get s.constraints how.earlier))
+    ++ (member (codes "column")
+    ++ (json_text (column_name_in (slice_get s.tables table) how.column)
+    ++ (member (codes "value") ++ (json_value how.value ++ (member (codes "other_value") ++ json_value how.earlier_value))))))
+
+-- the first of the rows, the key to which it refers, and how the two foreign keys disagree
+abbrev pub conflict_members : Schema → Option Constraint → List StoredRow → Disagreement → List ℕ
+conflict_members s constraint [] how = []
+conflict_members s constraint (row ∷ others) how =
+    place_members s row.table row.number
+    ++ (member (codes "values")
+    ++ (json_row row.values ++ (refers_members s row.values constraint ++ settings_members s row.table how)))
+
 -- ---- entries
 
 -- the front of an entry: its kind
@@ -178,11 +209,27 @@ ran_entry s id seen =
     entry_key (codes "trigger")
     ++ (member (codes "trigger") ++ (json_text (trigger_name (trigger_numbered s id)) ++ seen_members s seen))
 
+-- what a trigger saw that is skipped, and the truth of its WHEN
+abbrev pub skipped_members : SkippedView → List ℕ
+skipped_members seen =
+    side_member (codes "old") seen.old
+    ++ (side_member (codes "new") seen.new ++ (member (codes "when") ++ (json_text (truth_name seen.when) ++ codes "}")))
+
+abbrev pub skipped_entry : Schema → ℕ → SkippedView → List ℕ
+skipped_entry s id seen =
+    entry_key (codes "skipped")
+    ++ (member (codes "trigger") ++ (json_text (trigger_name (trigger_numbered s id)) ++ skipped_members seen))
+
+-- a statement that ends as it begins
+abbrev pub nothing_member : Bool → List ℕ
+nothing_member true = member (codes "changes_nothing") ++ codes "true"
+nothing_member false = []
+
 -- A nested statement by its place in the trigger's body. Its entries follow, in an array that its end closes.
-abbrev pub began_entry : ℕ → List ℕ
-began_entry place =
+abbrev pub began_entry : ℕ → Bool → List ℕ
+began_entry place nothing =
     entry_key (codes "statement")
-    ++ (member (codes "number") ++ (decimal place ++ (member (codes "account") ++ codes "[")))
+    ++ (member (codes "number") ++ (decimal place ++ (nothing_member nothing ++ (member (codes "account") ++ codes "["))))
 
 abbrev pub violation_entry : Schema → Result Answer Refusal → ℕ → List StoredRow → List ℕ
 violation_entry s outcome constraint rows =
@@ -191,13 +238,23 @@ violation_entry s outcome constraint rows =
     ++ (json_text (name_of (slice_get s.constraints constraint))
     ++ (violation_members s outcome (slice_get s.constraints constraint) rows ++ codes "}")))
 
-abbrev pub json_entry : Schema → Result Answer Refusal → Entry → List ℕ
-json_entry s outcome (Changed changes) = changed_entry s changes
-json_entry s outcome (Acted actions) = acted_entry s actions
-json_entry s outcome (Ran id seen) = ran_entry s id seen
-json_entry s outcome (Began place) = began_entry place
-json_entry s outcome Ended = codes "]}"
-json_entry s outcome (Faulted fault rows) = violation_entry s outcome fault.constraint rows
+abbrev pub conflict_entry : Schema → ℕ → List StoredRow → Disagreement → List ℕ
+conflict_entry s constraint rows how =
+    entry_key (codes "violation")
+    ++ (member (codes "constraint")
+    ++ (json_text (name_of (slice_get s.constraints constraint))
+    ++ (conflict_members s (slice_get s.constraints constraint) rows how ++ codes "}")))
+
+-- an entry before these further entries
+abbrev pub json_entry : Schema → Result Answer Refusal → Entry → List Entry → List ℕ
+json_entry s outcome (Changed changes) further = changed_entry s changes
+json_entry s outcome (Acted actions) further = acted_entry s actions
+json_entry s outcome (Ran id seen) further = ran_entry s id seen
+json_entry s outcome (Skipped id seen) further = skipped_entry s id seen
+json_entry s outcome (Began place) further = began_entry place (ends_next further)
+json_entry s outcome Ended further = codes "]}"
+json_entry s outcome (Faulted fault rows) further = violation_entry s outcome fault.constraint rows
+json_entry s outcome (Disagreed fault rows how) further = conflict_entry s fault.constraint rows how
 
 -- what stands between an entry and what is before it: a comma, unless it is the first of its array, or ends one
 abbrev pub separator : Bool → Entry → List ℕ
@@ -220,7 +277,7 @@ abbrev pub json_entries : Schema → Result Answer Refusal → ℕ → Bool → 
 json_entries s outcome depth first [] = ends depth
 json_entries s outcome depth first (entry ∷ entries) =
     separator first entry
-    ++ (json_entry s outcome entry ++ json_entries s outcome (depth_after depth entry) (begins entry) entries)
+    ++ (json_entry s outcome entry entries ++ json_entries s outcome (depth_after depth entry) (begins entry) entries)
 
 -- The account of a statement with this outcome, with names as the catalogue has them after it.
 abbrev pub json_account : Schema → Result Answer Refusal → List Entry → List ℕ

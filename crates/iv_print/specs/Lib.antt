@@ -9,3 +9,4 @@ pub mod WorkedAccounts
 pub mod Causes
 pub mod Json
 pub mod JsonAccounts
+pub mod PendingLines

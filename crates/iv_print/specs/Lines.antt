@@ -126,11 +126,11 @@ inside_text s (cause.Signal id place) trigger = []
 inside_text s (cause.DepthLimit id) trigger = []
 inside_text s _ trigger = inside_trigger s trigger
 
+-- the first line of an answer; the rows of a query follow
 abbrev pub answer_text : Answer → List ℕ
 answer_text Done = codes " ok\n"
 answer_text (Changed k) = codes " ok " ++ (decimal k ++ codes "\n")
-answer_text (Rows rows) =
-    codes " rows " ++ (decimal (length rows) ++ (codes "\n" ++ flat_map row_text rows))
+answer_text (Rows rows) = codes " rows " ++ (decimal (length rows) ++ codes "\n")
 
 abbrev pub refusal_text : Schema → Refusal → List ℕ
 refusal_text s r =
@@ -140,6 +140,20 @@ abbrev pub outcome_text : Schema → Result Answer Refusal → List ℕ
 outcome_text s (Ok a) = answer_text a
 outcome_text s (Err r) = refusal_text s r
 
--- The lines of the outcome of statement n, with names as the catalogue has them directly after it.
+-- The first line of the outcome of statement n, with names as the catalogue has them directly after it.
+abbrev pub first_line : ℕ → Result Answer Refusal → Schema → List ℕ
+first_line n outcome s = decimal n ++ outcome_text s outcome
+
+abbrev pub answer_rows : Answer → List ℕ
+answer_rows Done = []
+answer_rows (Changed k) = []
+answer_rows (Rows rows) = flat_map row_text rows
+
+-- The lines of the rows that an outcome gives.
+abbrev pub row_lines : Result Answer Refusal → List ℕ
+row_lines (Ok a) = answer_rows a
+row_lines (Err r) = []
+
+-- The lines of the outcome of statement n.
 abbrev pub line : ℕ → Result Answer Refusal → Schema → List ℕ
-line n outcome s = decimal n ++ outcome_text s outcome
+line n outcome s = first_line n outcome s ++ row_lines outcome

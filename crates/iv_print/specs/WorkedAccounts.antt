@@ -3,6 +3,8 @@ use Rattle.std.specs.Prelude.{◌≡◌, ℕ, pos, Bool, List, [], ◌∷◌, �
 use Rattle.iv_value.specs.declared.value.Value.{Value}
 use Rattle.iv_value.specs.declared.value.Value.TheVariants.{Null, Int, Text}
 use Rattle.iv_value.specs.declared.value.Kind.TheVariants.{Integer}
+use Rattle.iv_value.specs.declared.value.Truth.{Truth}
+use Rattle.iv_value.specs.declared.value.Truth.TheVariants.{False, Unknown}
 use Rattle.iv_expr.specs.declared.row.StoredRow.{StoredRow}
 use Rattle.iv_expr.specs.declared.row.Change.{Change}
 use Rattle.iv_expr.specs.declared.tree.Cond.TheVariants.{Always}
@@ -29,7 +31,7 @@ use Rattle.iv_machine.specs.declared.answer.Answer.{Answer}
 use Rattle.iv_machine.specs.declared.answer.Answer.TheVariants as answer
 use Rattle.iv_account.specs.declared.entry.RowAction.{RowAction}
 use Rattle.iv_account.specs.declared.entry.Entry.{Entry}
-use Rattle.iv_account.specs.declared.entry.Entry.TheVariants.{Changed, Acted, Ran, Began, Ended, Faulted}
+use Rattle.iv_account.specs.declared.entry.Entry.TheVariants.{Changed, Acted, Ran, Skipped, Began, Ended, Faulted, Disagreed}
 use Rattle.iv_print.specs.AccountLines.{account_text}
 
 -- ---- words
@@ -99,6 +101,9 @@ acts_on id act row = record { constraint = id; action = act; table = 1; row = ro
 abbrev pub ran_on : ℕ → Option (List Value) → Option (List Value) → List Change → Entry
 ran_on id old new changes = Ran id (record { old = old; new = new; transition = changes })
 
+abbrev pub skipped_on : ℕ → Option (List Value) → Option (List Value) → Truth → Entry
+skipped_on id old new when = Skipped id (record { old = old; new = new; when = when })
+
 abbrev pub stored : ℕ → ℕ → List Value → StoredRow
 stored table row values = record { table = table; number = row; values = values }
 
@@ -141,12 +146,24 @@ pub record WorkedAccounts : Type 0 where
       ∷ ran_on 2 None (Some (int 4 ∷ [])) [] ∷ [])
       ≡ codes "  trigger COUNTED\n    saw delete C row 2 (1, NULL)\n    saw delete C row 3 (2, NULL)\n"
       ++ codes "  trigger EACH OLD (1, NULL) NEW (2, NULL)\n  trigger EACH OLD (3)\n  trigger EACH NEW (4)\n"
+  pub skipped_triggers : accepted_text
+      (skipped_on 1 None None False ∷ skipped_on 2 (Some (int 1 ∷ Null ∷ [])) (Some (int 2 ∷ Null ∷ [])) Unknown
+      ∷ skipped_on 2 None (Some (int 4 ∷ [])) False ∷ [])
+      ≡ codes "  trigger COUNTED skipped: WHEN is false\n  trigger EACH OLD (1, NULL) NEW (2, NULL) skipped: WHEN is unknown\n"
+      ++ codes "  trigger EACH NEW (4) skipped: WHEN is false\n"
+  -- of these only the last two end as they begin
+  pub statements_that_change_nothing : accepted_text
+      (Began 1 ∷ Changed [] ∷ Ended ∷ Began 2 ∷ skipped_on 1 None None False ∷ Ended ∷ Began 3 ∷ Began 1 ∷ Ended ∷ Ended
+      ∷ Began 4 ∷ Ended ∷ [])
+      ≡ codes "  statement 1\n  statement 2\n    trigger COUNTED skipped: WHEN is false\n  statement 3\n    statement 1 changes nothing\n"
+      ++ codes "  statement 4 changes nothing\n"
+  pub statement_that_is_refused : accepted_text (Began 1 ∷ []) ≡ codes "  statement 1\n"
   pub statements_of_bodies_are_deeper : accepted_text
       (ran_on 1 None None [] ∷ Began 1 ∷ Changed (inserted 0 4 (int 4 ∷ []) ∷ [])
       ∷ ran_on 1 None None (inserted 0 4 (int 4 ∷ []) ∷ []) ∷ Began 2 ∷ Acted (acts_on 1 action.Cascade 2 ∷ []) ∷ Ended ∷ Ended
       ∷ Began 3 ∷ Ended ∷ ran_on 1 None None [] ∷ [])
       ≡ codes "  trigger COUNTED\n  statement 1\n    insert P row 4 (4)\n    trigger COUNTED\n      saw insert P row 4 (4)\n"
-      ++ codes "    statement 2\n      C_PARENT CASCADE on C row 2\n  statement 3\n  trigger COUNTED\n"
+      ++ codes "    statement 2\n      C_PARENT CASCADE on C row 2\n  statement 3 changes nothing\n  trigger COUNTED\n"
   pub fault_in_a_body : account_text schema (refused (cause.Violation (fault 0)))
       (Began 1 ∷ Faulted (fault 0) (stored 0 2 (int 1 ∷ []) ∷ stored 0 1 (int 1 ∷ []) ∷ []) ∷ [])
       ≡ codes "  statement 1\n    P_KEY: P row 2 (1) has the key of row 1 (1)\n"
@@ -158,6 +175,16 @@ pub record WorkedAccounts : Type 0 where
       ≡ codes "  C_PARENT: C row 2 (7, NULL) refers to P (7), which isn't there\n"
   pub key_is_protected : reference_fault_text (refused (cause.Restrict (fault 1)))
       ≡ codes "  C_PARENT: C row 2 (7, NULL) refers to P (7), which RESTRICT protects\n"
+  -- two foreign keys set a column of the row to different values: the one that is named first is the later one
+  pub actions_disagree : account_text schema (refused (cause.ActionConflict (fault 5)))
+      (Disagreed (fault 5) (stored 1 2 (int 7 ∷ int 8 ∷ []) ∷ [])
+      (record { earlier = 1; column = 0; earlier_value = int 9; value = Null }) ∷ [])
+      ≡ codes "  C_BOTH: C row 2 (7, 8) refers to P (8, 7), and C_PARENT sets X to 9, where C_BOTH sets it to NULL\n"
+  pub actions_disagree_about_a_text : account_text schema (refused (cause.ActionConflict (fault 5)))
+      (Disagreed (fault 5) (stored 1 2 (int 7 ∷ int 8 ∷ []) ∷ [])
+      (record { earlier = 1; column = 1; earlier_value = Text (codes "it's"); value = int 4 }) ∷ [])
+      ≡ codes "  C_BOTH: C row 2 (7, 8) refers to P (8, 7), and C_PARENT sets M to 'it''s', where C_BOTH sets it to 4\n"
+  -- the machine tells no such row without how the two disagree
   pub actions_differ : reference_fault_text (refused (cause.ActionConflict (fault 1)))
       ≡ codes "  C_PARENT: C row 2 (7, NULL) refers to P (7), and another foreign key sets a column otherwise\n"
   pub key_of_two_columns : violation_text 5 (stored 1 2 (int 7 ∷ int 8 ∷ []) ∷ [])

@@ -7,12 +7,13 @@ ghost use Rattle.iv_key.specs.Keys.{key_of};
 ghost use Rattle.iv_machine.specs.BeforeTriggers.{event_of_change};
 ghost use Rattle.iv_print.specs.Writing.{Writes};
 ghost use Rattle.iv_print.specs.Lines.{value_text, further_text, values_text};
-ghost use Rattle.iv_print.specs.AccountLines.{spaces, indent, table_name, column_name, column_name_in, numbered_text, listed_text, side_text, verb, sides_text, change_text, change_line, change_lines, action_words, action_line, action_lines, ran_lines, began_line, reference_words_of, referenced_text, reference_text, equal_text, key_text, null_text, rule_text, constraint_rule_text, fault_rows_text, fault_line, entry_text, depth_after, account_text};
+ghost use Rattle.iv_print.specs.AccountLines.{spaces, indent, table_name, column_name, column_name_in, numbered_text, listed_text, side_text, verb, sides_text, change_text, change_line, change_lines, action_words, action_line, action_lines, asked_text, ran_lines, truth_name, skipped_line, nothing_text, began_line, reference_words_of, referenced_text, reference_text, equal_text, key_text, null_text, rule_text, constraint_rule_text, fault_rows_text, fault_line, ends_next, entry_text, depth_after, account_text};
 
+use crate::conflict::write_conflict;
 use crate::device::{DeviceFault, Sink};
 use crate::outcome::{write_borrowed, write_name, write_row_number, write_trigger, write_values};
 use crate::write::{write_all, write_number};
-use iv_account::{Entry, RowAction, TriggerView};
+use iv_account::{Entry, RowAction, SkippedView, TriggerView};
 use iv_catalogue::{
     Catalogue, Cause, Column, Constraint, ConstraintId, ForeignKey, Refusal, Rule, Table, TriggerId,
 };
@@ -20,7 +21,7 @@ use iv_expr::{Change, Row, StoredRow, TableId};
 use iv_key::{Key, value_at};
 use iv_machine::Answer;
 use iv_syntax::ReferentialAction;
-use iv_value::{Value, ValueRef};
+use iv_value::{Truth, Value, ValueRef};
 
 fn write_spaces<W: Sink>(sink: &mut W, depth: usize) -> Result<(), DeviceFault>
     ensures { Writes (W.state sink.old) (W.state sink.new) result (spaces depth) }
@@ -33,8 +34,8 @@ fn write_spaces<W: Sink>(sink: &mut W, depth: usize) -> Result<(), DeviceFault>
     Ok(())
 }
 
-// The front of a line.
-fn write_indent<W: Sink>(sink: &mut W, depth: usize) -> Result<(), DeviceFault>
+/// The front of a line.
+pub(crate) fn write_indent<W: Sink>(sink: &mut W, depth: usize) -> Result<(), DeviceFault>
     ensures { Writes (W.state sink.old) (W.state sink.new) result (indent depth) }
 {
     write_all(sink, b"  ")?;
@@ -61,7 +62,8 @@ fn write_column<W: Sink>(sink: &mut W, columns: &[Column], column: u32) -> Resul
     }
 }
 
-fn write_column_in<W: Sink>(
+/// The name of a column of a table, where both are there.
+pub(crate) fn write_column_in<W: Sink>(
     sink: &mut W,
     table: Option<&Table>,
     column: u32,
@@ -75,8 +77,8 @@ fn write_column_in<W: Sink>(
     }
 }
 
-// A table and the number of a row of it.
-fn write_numbered<W: Sink>(
+/// A table and the number of a row of it.
+pub(crate) fn write_numbered<W: Sink>(
     sink: &mut W,
     catalogue: &Catalogue,
     table: TableId,
@@ -89,7 +91,8 @@ fn write_numbered<W: Sink>(
     write_row_number(sink, row)
 }
 
-fn write_listed<W: Sink>(sink: &mut W, values: &[Value]) -> Result<(), DeviceFault>
+/// Values in parentheses.
+pub(crate) fn write_listed<W: Sink>(sink: &mut W, values: &[Value]) -> Result<(), DeviceFault>
     ensures { Writes (W.state sink.old) (W.state sink.new) result (listed_text values.now) }
 {
     write_all(sink, b" (")?;
@@ -234,7 +237,26 @@ fn write_actions<W: Sink>(
     Ok(())
 }
 
-// A trigger and what it saw.
+// A trigger with the rows that it saw.
+fn write_asked<W: Sink>(
+    sink: &mut W,
+    catalogue: &Catalogue,
+    depth: usize,
+    id: TriggerId,
+    old: &Option<Row>,
+    new: &Option<Row>,
+) -> Result<(), DeviceFault>
+    ensures { Writes (W.state sink.old) (W.state sink.new) result
+        (asked_text catalogue.now depth id old.now new.now) }
+{
+    write_indent(sink, depth)?;
+    write_all(sink, b"trigger")?;
+    write_trigger(sink, catalogue, id)?;
+    write_side(sink, b" OLD", old)?;
+    write_side(sink, b" NEW", new)
+}
+
+// A trigger that runs, and what it saw.
 fn write_ran<W: Sink>(
     sink: &mut W,
     catalogue: &Catalogue,
@@ -245,11 +267,7 @@ fn write_ran<W: Sink>(
     ensures { Writes (W.state sink.old) (W.state sink.new) result
         (ran_lines catalogue.now depth id seen.now) }
 {
-    write_indent(sink, depth)?;
-    write_all(sink, b"trigger")?;
-    write_trigger(sink, catalogue, id)?;
-    write_side(sink, b" OLD", &seen.old)?;
-    write_side(sink, b" NEW", &seen.new)?;
+    write_asked(sink, catalogue, depth, id, &seen.old, &seen.new)?;
     write_all(sink, b"\n")?;
     write_changes(
         sink,
@@ -260,12 +278,52 @@ fn write_ran<W: Sink>(
     )
 }
 
-fn write_began<W: Sink>(sink: &mut W, depth: usize, place: u32) -> Result<(), DeviceFault>
-    ensures { Writes (W.state sink.old) (W.state sink.new) result (began_line depth place) }
+/// The name of a truth.
+pub(crate) fn truth_name(truth: Truth) -> &'static str
+    ensures { result.now ≡ truth_name truth }
+{
+    match truth {
+        Truth::False => "false",
+        Truth::Unknown => "unknown",
+        Truth::True => "true",
+    }
+}
+
+// A trigger that is skipped, what it saw, and why.
+fn write_skipped<W: Sink>(
+    sink: &mut W,
+    catalogue: &Catalogue,
+    depth: usize,
+    id: TriggerId,
+    seen: &SkippedView,
+) -> Result<(), DeviceFault>
+    ensures { Writes (W.state sink.old) (W.state sink.new) result
+        (skipped_line catalogue.now depth id seen.now) }
+{
+    write_asked(sink, catalogue, depth, id, &seen.old, &seen.new)?;
+    write_all(sink, b" skipped: WHEN is ")?;
+    write_all(sink, truth_name(seen.when).as_bytes())?;
+    write_all(sink, b"\n")
+}
+
+fn nothing_text(nothing: bool) -> &'static str
+    ensures { result.now ≡ nothing_text nothing }
+{
+    if nothing { " changes nothing" } else { "" }
+}
+
+fn write_began<W: Sink>(
+    sink: &mut W,
+    depth: usize,
+    place: u32,
+    nothing: bool,
+) -> Result<(), DeviceFault>
+    ensures { Writes (W.state sink.old) (W.state sink.new) result (began_line depth place nothing) }
 {
     write_indent(sink, depth)?;
     write_all(sink, b"statement ")?;
     write_number(sink, u64::from(place))?;
+    write_all(sink, nothing_text(nothing).as_bytes())?;
     write_all(sink, b"\n")
 }
 
@@ -335,8 +393,8 @@ fn reference_words(outcome: &Result<Answer, Refusal>) -> &'static str
     }
 }
 
-// The table and the key to which a row of these values refers.
-fn write_referenced<W: Sink>(
+/// The table and the key to which a row of these values refers.
+pub(crate) fn write_referenced<W: Sink>(
     sink: &mut W,
     catalogue: &Catalogue,
     values: &[Value],
@@ -459,7 +517,7 @@ fn write_constraint_rule<W: Sink>(
 }
 
 // The first of the rows, and what is wrong with it.
-fn write_fault_rows<W: Sink>(
+pub(crate) fn write_fault_rows<W: Sink>(
     sink: &mut W,
     catalogue: &Catalogue,
     outcome: &Result<Answer, Refusal>,
@@ -499,22 +557,34 @@ fn write_fault<W: Sink>(
     write_all(sink, b"\n")
 }
 
-// The lines of an entry.
+/// Whether the next of these entries is an end.
+pub(crate) fn ends_next(entries: &[Entry]) -> bool
+    ensures { result ≡ ends_next entries.now }
+{
+    match entries {
+        [] => false,
+        [entry, ..] => matches!(entry, Entry::Ended),
+    }
+}
+
+// The lines of an entry, before these further entries.
 fn write_entry<W: Sink>(
     sink: &mut W,
     catalogue: &Catalogue,
     outcome: &Result<Answer, Refusal>,
     depth: usize,
     entry: &Entry,
+    further: &[Entry],
 ) -> Result<(), DeviceFault>
     ensures { Writes (W.state sink.old) (W.state sink.new) result
-        (entry_text catalogue.now outcome.now depth entry.now) }
+        (entry_text catalogue.now outcome.now depth entry.now further.now) }
 {
     match entry {
         Entry::Changed(changes) => write_changes(sink, catalogue, depth, b"", changes.as_slice()),
         Entry::Acted(actions) => write_actions(sink, catalogue, depth, actions.as_slice()),
         Entry::Ran(id, seen) => write_ran(sink, catalogue, depth, *id, seen),
-        Entry::Began(place) => write_began(sink, depth, *place),
+        Entry::Skipped(id, seen) => write_skipped(sink, catalogue, depth, *id, seen),
+        Entry::Began(place) => write_began(sink, depth, *place, ends_next(further)),
         Entry::Ended => write_all(sink, b""),
         Entry::Faulted(fault, rows) => write_fault(
             sink,
@@ -523,6 +593,14 @@ fn write_entry<W: Sink>(
             depth,
             fault.constraint,
             rows.as_slice(),
+        ),
+        Entry::Disagreed(fault, rows, how) => write_conflict(
+            sink,
+            catalogue,
+            depth,
+            fault.constraint,
+            rows.as_slice(),
+            how,
         ),
     }
 }
@@ -553,7 +631,7 @@ pub fn write_account<W: Sink>(
     let mut rest = entries;
     let mut depth = 0usize;
     while let Some((entry, others)) = rest.split_first() {
-        write_entry(sink, catalogue, outcome, depth, entry)?;
+        write_entry(sink, catalogue, outcome, depth, entry, others)?;
         depth = depth_after(depth, entry);
         rest = others;
     }

@@ -117,7 +117,8 @@ pub(crate) fn write_borrowed<W: Sink>(sink: &mut W, value: ValueRef<'_>) -> Resu
     }
 }
 
-fn write_value<W: Sink>(sink: &mut W, value: &Value) -> Result<(), DeviceFault>
+/// A value as JSON.
+pub(crate) fn write_value<W: Sink>(sink: &mut W, value: &Value) -> Result<(), DeviceFault>
     ensures { Writes (W.state sink.old) (W.state sink.new) result (json_value value.now) }
 {
     write_borrowed(sink, value.as_ref())

@@ -7,17 +7,18 @@ ghost use Rattle.iv_key.specs.Keys.{key_of};
 ghost use Rattle.iv_print.specs.Writing.{Writes};
 ghost use Rattle.iv_print.specs.AccountLines.{column_name, column_name_in, table_name};
 ghost use Rattle.iv_print.specs.Json.{further_value, json_text, json_values};
-ghost use Rattle.iv_print.specs.JsonAccounts.{acted_entry, acting_members, action_name, because, began_entry, begins, changed_entry, constraint_rule_members, ends, entry_key, equal_members, event_member, event_name, further_action, further_change, json_account, json_action, json_actions, json_change, json_changes, json_entries, json_entry, key_members, null_members, place_members, ran_entry, reference_members, reference_reason, referenced_members, rule_members, saw_member, seen_members, separator, side_member, side_members, violation_entry, violation_members};
+ghost use Rattle.iv_print.specs.JsonAccounts.{acted_entry, acting_members, action_name, because, began_entry, begins, changed_entry, constraint_rule_members, ends, entry_key, equal_members, event_member, event_name, further_action, further_change, json_account, json_action, json_actions, json_change, json_changes, json_entries, json_entry, key_members, nothing_member, null_members, place_members, ran_entry, reference_members, reference_reason, referenced_members, rule_members, saw_member, seen_members, skipped_entry, skipped_members, separator, side_member, side_members, violation_entry, violation_members};
 ghost use Rattle.iv_machine.specs.BeforeTriggers.{event_of_change};
 
-use crate::account::depth_after;
+use crate::account::{depth_after, ends_next, truth_name};
 use crate::device::{DeviceFault, Sink};
 use crate::json::{
     write_borrowed, write_json_text, write_key, write_member, write_name, write_number_member,
     write_row, write_text_member, write_trigger_name,
 };
+use crate::json_conflict::write_conflict;
 use crate::write::{write_all, write_number};
-use iv_account::{Entry, RowAction, TriggerView};
+use iv_account::{Entry, RowAction, SkippedView, TriggerView};
 use iv_catalogue::{
     Catalogue, Cause, Column, Constraint, ConstraintId, ForeignKey, Refusal, Rule, Table, TriggerId,
 };
@@ -39,8 +40,8 @@ fn write_table<W: Sink>(sink: &mut W, table: Option<&Table>) -> Result<(), Devic
     }
 }
 
-// The table and the number of a row.
-fn write_place<W: Sink>(
+/// The table and the number of a row.
+pub(crate) fn write_place<W: Sink>(
     sink: &mut W,
     catalogue: &Catalogue,
     table: TableId,
@@ -245,7 +246,8 @@ fn write_actions<W: Sink>(
 
 // ---- violations
 
-fn write_because<W: Sink>(sink: &mut W, reason: &[u8]) -> Result<(), DeviceFault>
+/// Why a row violates a constraint.
+pub(crate) fn write_because<W: Sink>(sink: &mut W, reason: &[u8]) -> Result<(), DeviceFault>
     ensures { Writes (W.state sink.old) (W.state sink.new) result (because reason.now) }
 {
     write_text_member(sink, b"because", reason)
@@ -304,8 +306,8 @@ fn reference_reason(outcome: &Result<Answer, Refusal>) -> &'static str
     }
 }
 
-// The table and the key to which a row of these values refers.
-fn write_referenced<W: Sink>(
+/// The table and the key to which a row of these values refers.
+pub(crate) fn write_referenced<W: Sink>(
     sink: &mut W,
     catalogue: &Catalogue,
     values: &[Value],
@@ -386,7 +388,8 @@ fn write_column<W: Sink>(sink: &mut W, columns: &[Column], column: u32) -> Resul
     }
 }
 
-fn write_column_in<W: Sink>(
+/// The name of a column of a table, where both are there.
+pub(crate) fn write_column_in<W: Sink>(
     sink: &mut W,
     table: Option<&Table>,
     column: u32,
@@ -483,7 +486,8 @@ fn write_violation<W: Sink>(
 
 // ---- entries
 
-fn write_entry_key<W: Sink>(sink: &mut W, kind: &[u8]) -> Result<(), DeviceFault>
+/// The front of an entry of this kind.
+pub(crate) fn write_entry_key<W: Sink>(sink: &mut W, kind: &[u8]) -> Result<(), DeviceFault>
     ensures { Writes (W.state sink.old) (W.state sink.new) result (entry_key kind.now) }
 {
     write_all(sink, b"{")?;
@@ -566,13 +570,51 @@ fn write_ran<W: Sink>(
     write_seen(sink, catalogue, seen)
 }
 
+// What a trigger saw that is skipped, and the truth of its WHEN.
+fn write_skipped_view<W: Sink>(sink: &mut W, seen: &SkippedView) -> Result<(), DeviceFault>
+    ensures { Writes (W.state sink.old) (W.state sink.new) result (skipped_members seen.now) }
+{
+    write_side(sink, b"old", &seen.old)?;
+    write_side(sink, b"new", &seen.new)?;
+    write_text_member(sink, b"when", truth_name(seen.when).as_bytes())?;
+    write_all(sink, b"}")
+}
+
+// A trigger that is skipped.
+fn write_skipped<W: Sink>(
+    sink: &mut W,
+    catalogue: &Catalogue,
+    id: TriggerId,
+    seen: &SkippedView,
+) -> Result<(), DeviceFault>
+    ensures { Writes (W.state sink.old) (W.state sink.new) result
+        (skipped_entry catalogue.now id seen.now) }
+{
+    write_entry_key(sink, b"skipped")?;
+    write_member(sink, b"trigger")?;
+    write_trigger_name(sink, catalogue, id)?;
+    write_skipped_view(sink, seen)
+}
+
+fn write_nothing<W: Sink>(sink: &mut W, nothing: bool) -> Result<(), DeviceFault>
+    ensures { Writes (W.state sink.old) (W.state sink.new) result (nothing_member nothing) }
+{
+    if nothing {
+        write_member(sink, b"changes_nothing")?;
+        write_all(sink, b"true")
+    } else {
+        write_all(sink, b"")
+    }
+}
+
 // A nested statement, up to the array of its entries.
-fn write_began<W: Sink>(sink: &mut W, place: u32) -> Result<(), DeviceFault>
-    ensures { Writes (W.state sink.old) (W.state sink.new) result (began_entry place) }
+fn write_began<W: Sink>(sink: &mut W, place: u32, nothing: bool) -> Result<(), DeviceFault>
+    ensures { Writes (W.state sink.old) (W.state sink.new) result (began_entry place nothing) }
 {
     write_entry_key(sink, b"statement")?;
     write_member(sink, b"number")?;
     write_number(sink, u64::from(place))?;
+    write_nothing(sink, nothing)?;
     write_member(sink, b"account")?;
     write_all(sink, b"[")
 }
@@ -594,23 +636,29 @@ fn write_faulted<W: Sink>(
     write_all(sink, b"}")
 }
 
+// An entry, before these further entries.
 fn write_entry<W: Sink>(
     sink: &mut W,
     catalogue: &Catalogue,
     outcome: &Result<Answer, Refusal>,
     entry: &Entry,
+    further: &[Entry],
 ) -> Result<(), DeviceFault>
     ensures { Writes (W.state sink.old) (W.state sink.new) result
-        (json_entry catalogue.now outcome.now entry.now) }
+        (json_entry catalogue.now outcome.now entry.now further.now) }
 {
     match entry {
         Entry::Changed(changes) => write_changed(sink, catalogue, changes.as_slice()),
         Entry::Acted(actions) => write_acted(sink, catalogue, actions.as_slice()),
         Entry::Ran(id, seen) => write_ran(sink, catalogue, *id, seen),
-        Entry::Began(place) => write_began(sink, *place),
+        Entry::Skipped(id, seen) => write_skipped(sink, catalogue, *id, seen),
+        Entry::Began(place) => write_began(sink, *place, ends_next(further)),
         Entry::Ended => write_all(sink, b"]}"),
         Entry::Faulted(fault, rows) => {
             write_faulted(sink, catalogue, outcome, fault.constraint, rows.as_slice())
+        }
+        Entry::Disagreed(fault, rows, how) => {
+            write_conflict(sink, catalogue, fault.constraint, rows.as_slice(), how)
         }
     }
 }
@@ -634,12 +682,13 @@ fn write_separated<W: Sink>(
     outcome: &Result<Answer, Refusal>,
     first: bool,
     entry: &Entry,
+    further: &[Entry],
 ) -> Result<(), DeviceFault>
     ensures { Writes (W.state sink.old) (W.state sink.new) result
-        (separator first entry.now ++ json_entry catalogue.now outcome.now entry.now) }
+        (separator first entry.now ++ json_entry catalogue.now outcome.now entry.now further.now) }
 {
     write_all(sink, separator(first, entry))?;
-    write_entry(sink, catalogue, outcome, entry)
+    write_entry(sink, catalogue, outcome, entry, further)
 }
 
 // Whether the next entry is the first of its array.
@@ -674,7 +723,7 @@ fn write_entries<W: Sink>(
     let mut depth = 0usize;
     let mut first = true;
     while let Some((entry, others)) = rest.split_first() {
-        write_separated(sink, catalogue, outcome, first, entry)?;
+        write_separated(sink, catalogue, outcome, first, entry, others)?;
         depth = depth_after(depth, entry);
         first = begins(entry);
         rest = others;

@@ -4,11 +4,14 @@
 mod account;
 mod buffered;
 mod cause;
+mod conflict;
 mod device;
 mod format;
 mod json;
 mod json_account;
+mod json_conflict;
 mod outcome;
+mod pending;
 mod write;
 
 pub use account::write_account;
@@ -21,5 +24,6 @@ pub use json::{
     write_outcome_members, write_text_member,
 };
 pub use json_account::write_json_account;
-pub use outcome::{cause_words, signal_text, write_outcome};
+pub use outcome::{cause_words, signal_text, write_first_line, write_outcome, write_row_lines};
+pub use pending::{write_pending_lines, write_pending_members};
 pub use write::{write_all, write_number};

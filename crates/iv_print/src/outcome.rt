@@ -4,7 +4,7 @@ ghost use Rattle.std.specs.List.{flat_map};
 ghost use Rattle.iv_value.specs.References.{value_of};
 ghost use Rattle.iv_catalogue.specs.Catalogues.{trigger_numbered};
 ghost use Rattle.iv_print.specs.Writing.{Writes};
-ghost use Rattle.iv_print.specs.Lines.{quote_doubled, value_text, further_text, values_text, row_text, name_of, constraint_text, row_number_text, fault_text, trigger_text, body_statement, signal_text, signal_details, cause_words, details, inside_trigger, inside_text, answer_text, refusal_text, line};
+ghost use Rattle.iv_print.specs.Lines.{quote_doubled, value_text, further_text, values_text, row_text, name_of, constraint_text, row_number_text, fault_text, trigger_text, body_statement, signal_text, signal_details, cause_words, details, inside_trigger, inside_text, answer_rows, answer_text, refusal_text, first_line, row_lines, line};
 
 use crate::device::{DeviceFault, Sink};
 use crate::write::{write_all, write_number};
@@ -62,7 +62,8 @@ pub(crate) fn write_borrowed<W: Sink>(sink: &mut W, value: ValueRef<'_>) -> Resu
     }
 }
 
-fn write_value<W: Sink>(sink: &mut W, value: &Value) -> Result<(), DeviceFault>
+/// A value as text.
+pub(crate) fn write_value<W: Sink>(sink: &mut W, value: &Value) -> Result<(), DeviceFault>
     ensures { Writes (W.state sink.old) (W.state sink.new) result (value_text value.now) }
 {
     write_borrowed(sink, value.as_ref())
@@ -321,17 +322,56 @@ fn write_answer<W: Sink>(sink: &mut W, answer: &Answer) -> Result<(), DeviceFaul
             write_all(sink, b"\n")
         }
         Answer::Rows(rows) => {
-            let rows = rows.as_slice();
             write_all(sink, b" rows ")?;
             write_number(sink, rows.len() as u64)?;
-            write_all(sink, b"\n")?;
-            write_rows(sink, rows)
+            write_all(sink, b"\n")
         }
     }
 }
 
-/// Writes the lines of the outcome of statement `number`, a place in the script from 1, with the names of
+fn write_answer_rows<W: Sink>(sink: &mut W, answer: &Answer) -> Result<(), DeviceFault>
+    ensures { Writes (W.state sink.old) (W.state sink.new) result (answer_rows answer.now) }
+{
+    match answer {
+        Answer::Rows(rows) => write_rows(sink, rows.as_slice()),
+        _ => write_all(sink, b""),
+    }
+}
+
+/// Writes the first line of the outcome of statement `number`, a place in the script from 1, with the names of
 /// constraints and triggers as the catalogue has them. It takes no memory.
+pub fn write_first_line<W: Sink>(
+    sink: &mut W,
+    number: u64,
+    outcome: &Result<Answer, Refusal>,
+    catalogue: &Catalogue,
+) -> Result<(), DeviceFault>
+    ensures { Writes (W.state sink.old) (W.state sink.new) result
+        (first_line number outcome.now catalogue.now) }
+{
+    write_number(sink, number)?;
+    match outcome {
+        Ok(answer) => write_answer(sink, answer),
+        Err(refusal) => write_refusal(sink, catalogue, refusal),
+    }
+}
+
+/// Writes the lines of the rows that a query gives, which follow its first line; nothing for any other outcome. It takes
+/// no memory.
+pub fn write_row_lines<W: Sink>(
+    sink: &mut W,
+    outcome: &Result<Answer, Refusal>,
+) -> Result<(), DeviceFault>
+    ensures { Writes (W.state sink.old) (W.state sink.new) result (row_lines outcome.now) }
+{
+    match outcome {
+        Ok(answer) => write_answer_rows(sink, answer),
+        Err(_) => write_all(sink, b""),
+    }
+}
+
+/// Writes the lines of the outcome of statement `number`: the first one, and those of the rows of a query. It takes no
+/// memory.
 pub fn write_outcome<W: Sink>(
     sink: &mut W,
     number: u64,
@@ -341,9 +381,6 @@ pub fn write_outcome<W: Sink>(
     ensures { Writes (W.state sink.old) (W.state sink.new) result
         (line number outcome.now catalogue.now) }
 {
-    write_number(sink, number)?;
-    match outcome {
-        Ok(answer) => write_answer(sink, answer),
-        Err(refusal) => write_refusal(sink, catalogue, refusal),
-    }
+    write_first_line(sink, number, outcome, catalogue)?;
+    write_row_lines(sink, outcome)
 }

@@ -1,8 +1,8 @@
 //! A database for a program that ends with it.
 ghost use Rattle.std.specs.Mem.{manually_drop_value};
 
-use iv_account::Entry;
-use iv_catalogue::Catalogue;
+use iv_account::{Account, Entry};
+use iv_catalogue::{Catalogue, Fault};
 use iv_machine::Limits;
 use iv_step::{Executor, Outcome};
 use iv_syntax::Statement;
@@ -57,6 +57,14 @@ impl<X: Executor + Drop> Executor for Lasting<X> {
 
     fn in_transaction(&self) -> bool {
         self.database.in_transaction()
+    }
+
+    fn pending(&self) -> Result<Vec<Fault>, AllocError> {
+        self.database.pending()
+    }
+
+    fn violations(&self, faults: &[Fault]) -> Result<Account, AllocError> {
+        self.database.violations(faults)
     }
 
     fn execute(&mut self, statement: &Statement) -> Outcome {

@@ -3,3 +3,4 @@ pub mod Runs
 pub mod Scripts
 pub mod Worked
 pub mod PlaceLemmas
+pub mod Merged

@@ -4,6 +4,7 @@ use Rattle.std.proofs.lemmas.Bool.{false≢true}
 use Rattle.std.specs.Io.KnownBytes.{Appends}
 use Rattle.std.proofs.KnownBytes.{Appends-trans}
 use Rattle.iv_syntax.specs.declared.statement.Statement.{Statement}
+use Rattle.iv_catalogue.specs.declared.cause.Fault.{Fault}
 use Rattle.iv_parse.specs.Script.{IsFault, IsScript}
 use Rattle.iv_machine.specs.Bounds.{Bounds}
 use Rattle.iv_machine.specs.Machine.{State, empty_state}
@@ -15,7 +16,7 @@ use Rattle.iv_print.proofs.WriteLemmas.{never_then}
 use Rattle.iv_parse.specs.declared.parser.SyntaxFault.{SyntaxFault}
 use Rattle.iv_script.specs.declared.statements.Tally.{Tally}
 use Rattle.iv_script.specs.declared.summary.Summary.{Summary}
-use Rattle.iv_script.specs.Transcript.{Memory, granted, denied, untold, Ran, following, outcome, lines, accepted_of, refused_of, run_from, told_with, AreDue, memory_refusals, untold_accounts, begin_of, closing_lines, fault_place, RanScript, RanWithMemory}
+use Rattle.iv_script.specs.Transcript.{Memory, granted, denied, untold, unlisted, News, Ran, following, news_after, outcome, lines, accepted_of, refused_of, run_from, told_with, AreDue, memory_refusals, untold_accounts, begin_of, closing_lines, fault_place, RanScript, RanWithMemory}
 use Rattle.iv_script.specs.Running.{RanAll, RanParsed}
 
 pub ran_parsed : (sure_back : Bool) (style : Style) (old new : State) (text : List ℕ) (sts : List Statement) (fault : Option SyntaxFault) (tally : Tally) (b0 b1 b2 : SinkState)
@@ -55,16 +56,18 @@ ran_script sure_back bytes limits style sts fault tally a b s w r = record {
   appended = r.appended;
 }
 
--- where memory is refused neither to a statement nor to an account, the run is the machine's
-run_with_memory : (style : Style) (s : State) (n : ℕ) (sts : List Statement) (memory : List Memory) → memory_refusals memory ≡ 0 → untold_accounts memory ≡ 0
-    → run_from style s n sts memory ≡ run_from style s n sts []
-run_with_memory style s n [] memory h u = refl
-run_with_memory style s n (st ∷ sts) [] h u = refl
-run_with_memory style s n (st ∷ sts) (denied t ∷ ms) h u = absurd (omega (arith, h))
-run_with_memory style s n (st ∷ sts) (untold ∷ ms) h u = absurd (omega (arith, u))
-run_with_memory style s n (st ∷ sts) (granted ∷ ms) h u =
-    ap (following (lines style (n + 1) st (outcome granted s st) (told_with style.explain granted s st)) (accepted_of (step s st).answer) (refused_of (step s st).answer))
-    (run_with_memory style (step s st).state (n + 1) sts ms h u)
+-- where memory is refused neither to a statement nor to an account nor to the lines of what is pending, the run is the machine's
+run_with_memory : (style : Style) (s : State) (listed : List Fault) (n : ℕ) (sts : List Statement) (memory : List Memory) → memory_refusals memory ≡ 0 → untold_accounts memory ≡ 0
+    → run_from style s listed n sts memory ≡ run_from style s listed n sts []
+run_with_memory style s listed n [] memory h u = refl
+run_with_memory style s listed n (st ∷ sts) [] h u = refl
+run_with_memory style s listed n (st ∷ sts) (denied t ∷ ms) h u = absurd (omega (arith, h))
+run_with_memory style s listed n (st ∷ sts) (untold ∷ ms) h u = absurd (omega (arith, u))
+run_with_memory style s listed n (st ∷ sts) (unlisted ∷ ms) h u = absurd (omega (arith, u))
+run_with_memory style s listed n (st ∷ sts) (granted ∷ ms) h u =
+    let news : News = news_after style.explain granted listed (step s st).state in
+    ap (following (lines style (n + 1) st (outcome granted s st) (told_with style.explain granted s st) news) (accepted_of (step s st).answer) (refused_of (step s st).answer))
+    (run_with_memory style (step s st).state news.listed (n + 1) sts ms h u)
 
 pub ran_with_memory : (sure_back : Bool) (style : Style) (bytes : List ℕ) (limits : Bounds) (summary : Summary) (a b : SinkState)
     → RanScript sure_back bytes limits style summary a b → summary.memory_refused ≡ 0 → summary.untold ≡ 0 → RanWithMemory bytes limits style (fault_place summary) a b
@@ -73,7 +76,7 @@ ran_with_memory sure_back style bytes limits summary a b r z u = record {
   is_script = r.is_script;
   word = r.word;
   appended = subst (λ (q : Ran). Appends a.contents b.contents (q.text ++ closing_lines style bytes (length r.statements) (fault_place summary) q.state))
-      (run_with_memory style (empty_state limits) 0 r.statements r.memory (r.memory_refusals_are ∙ z) (r.untold_are ∙ u)) r.appended;
+      (run_with_memory style (empty_state limits) [] 0 r.statements r.memory (r.memory_refusals_are ∙ z) (r.untold_are ∙ u)) r.appended;
 }
 
 -- where no account is asked for, memory is refused to none
@@ -84,6 +87,7 @@ none_untold sure_back s (st ∷ sts) [] h due = refl
 none_untold sure_back s (st ∷ sts) (granted ∷ ms) h due = none_untold sure_back (outcome granted s st).state sts ms (omega (arith, h)) due.1
 none_untold sure_back s (st ∷ sts) (denied t ∷ ms) h due = none_untold sure_back (outcome (denied t) s st).state sts ms (omega (arith, h)) due.1
 none_untold sure_back s (st ∷ sts) (untold ∷ ms) h due = absurd (false≢true due.0.0)
+none_untold sure_back s (st ∷ sts) (unlisted ∷ ms) h due = absurd (false≢true due.0.0)
 
 pub unasked_told : (sure_back : Bool) (bytes : List ℕ) (limits : Bounds) (style : Style) (summary : Summary) (a b : SinkState) → style.explain ≡ false → RanScript sure_back bytes limits style summary a b → summary.untold ≡ 0
 unasked_told sure_back bytes limits style summary a b plain r =

@@ -1,6 +1,6 @@
 -- A script's transcript in JSON: an object for each statement, one for the script's fault, and one for a transaction that is open at the end.
 -- Each stands on a line of its own.
-use Rattle.std.specs.Prelude.{ℕ, ◌+◌, Bool, true, false, List, [], ◌∷◌, ◌++◌, codes, decimal, Option, Some, None, Result, Err}
+use Rattle.std.specs.Prelude.{ℕ, ◌+◌, Bool, true, false, List, [], ◌∷◌, ◌++◌, codes, decimal, Option, Some, None, Result, Ok, Err}
 use Rattle.std.specs.List.{flat_map}
 use Rattle.iv_lex.specs.declared.kind.TokenKind.{TokenKind}
 use Rattle.iv_lex.specs.declared.token.Token.{Token}
@@ -9,11 +9,14 @@ use Rattle.iv_parse_terms.specs.WantedKinds.{wanted_kinds}
 use Rattle.iv_syntax.specs.declared.statement.Statement.{Statement}
 use Rattle.iv_parse.specs.declared.parser.SyntaxFault.{SyntaxFault}
 use Rattle.iv_catalogue.specs.Catalogues.{Schema}
+use Rattle.iv_catalogue.specs.declared.cause.Fault.{Fault}
 use Rattle.iv_catalogue.specs.declared.cause.Refusal.{Refusal}
 use Rattle.iv_machine.specs.declared.answer.Answer.{Answer}
 use Rattle.iv_account.specs.declared.entry.Entry.{Entry}
 use Rattle.iv_print.specs.Json.{json_text, key, kind_member, member, outcome_members}
 use Rattle.iv_print.specs.JsonAccounts.{json_account}
+use Rattle.iv_print.specs.PendingLines.{pending_members}
+use Rattle.iv_explain.specs.Columns.{columns_member}
 use Rattle.iv_explain.specs.Explanations.{explained_member}
 use Rattle.iv_script.specs.FaultLines.{wrong_word}
 use Rattle.iv_script.specs.Hints.{fault_hint}
@@ -34,10 +37,19 @@ abbrev pub about_member : Bool → Schema → Option Statement → Result Answer
 about_member true s (Some st) (Err r) = explained_member s st r.cause
 about_member _ s st _ = []
 
--- The line of the n-th statement: its outcome, the name or the reason of its refusal, and its account.
-abbrev pub json_line : Bool → ℕ → Option Statement → Schema → Result Answer Refusal → List Entry → List ℕ
-json_line asked n st s r told =
-    number_key n ++ (outcome_members s r ++ (about_member asked s st r ++ (account_member asked s r told ++ codes "}\n")))
+-- The member of the columns of a query that is accepted, where accounts are asked for and the statement is known.
+abbrev pub columns_member_of : Bool → Schema → Option Statement → Result Answer Refusal → List ℕ
+columns_member_of true s (Some st) (Ok a) = columns_member s st
+columns_member_of _ s st _ = []
+
+-- The line of the n-th statement: its outcome, the columns of a query, the name or the reason of its refusal, its account, and the violations
+-- of deferred constraints that came and went.
+abbrev pub json_line : Bool → ℕ → Option Statement → Schema → Result Answer Refusal → List Entry → List Entry → List Fault → List ℕ
+json_line asked n st s r told came went =
+    number_key n
+    ++ (outcome_members s r
+    ++ (columns_member_of asked s st r
+    ++ (about_member asked s st r ++ (account_member asked s r told ++ (pending_members s came went ++ codes "}\n")))))
 
 -- the line and the column of a byte of a text
 abbrev pub place_members : Place → List ℕ

@@ -4,6 +4,8 @@ pub mod Hints
 pub mod FaultLines
 pub mod JsonLines
 pub mod Transcript
+pub mod Merging
+pub mod News
 pub mod Running
 pub mod RunFaults
 pub mod WorkedLines

@@ -3,21 +3,23 @@ ghost use Rattle.std.specs.Prelude.{◌≡◌, ◌+◌, ◌++◌, ◌<◌, ◌^�
 ghost use Rattle.std.specs.List.{flat_map};
 ghost use Rattle.std.specs.Option.{option_copied};
 ghost use Rattle.iv_print.specs.Writing.{Writes};
-ghost use Rattle.iv_script.specs.JsonLines.{about_member, account_member, byte_members, fault_front, fault_members, json_closing, json_end_line, json_fault_line, json_kinds, json_line, further_text, hint_member, known_members, number_key, place_members, text_member, wanted_member, word_member};
+ghost use Rattle.iv_script.specs.JsonLines.{about_member, account_member, byte_members, columns_member_of, fault_front, fault_members, json_closing, json_end_line, json_fault_line, json_kinds, json_line, further_text, hint_member, known_members, number_key, place_members, text_member, wanted_member, word_member};
 ghost use Rattle.iv_script.specs.Places.{place_at};
 
 use crate::fault_line::wrong_word;
 use crate::hint::fault_hint;
+use crate::lines::Told;
 use crate::place::{Place, place_at};
 use crate::telling::Telling;
 use iv_account::Entry;
 use iv_catalogue::Catalogue;
-use iv_explain::write_explained_member;
+use iv_explain::{write_columns_member, write_explained_member};
 use iv_lex::{Token, TokenKind, kind_text};
 use iv_parse::SyntaxFault;
 use iv_print::{
     DeviceFault, Sink, write_all, write_json_account, write_json_text, write_key, write_member,
-    write_number, write_number_member, write_outcome_members, write_text_member,
+    write_number, write_number_member, write_outcome_members, write_pending_members,
+    write_text_member,
 };
 use iv_step::Outcome;
 use iv_syntax::Statement;
@@ -90,6 +92,26 @@ fn write_about<W: Sink>(
     }
 }
 
+// The columns of a query that is accepted, where accounts are asked for and the statement is known.
+fn write_columns<W: Sink>(
+    writer: &mut W,
+    telling: Telling,
+    statement: Option<&Statement>,
+    outcome: &Outcome,
+    catalogue: &Catalogue,
+) -> Result<(), DeviceFault>
+    ensures { Writes (W.state writer.old) (W.state writer.new) result
+        (columns_member_of telling.style.explain catalogue.now (option_copied statement.entry) outcome.now) }
+{
+    let Some(statement) = statement else {
+        return write_all(writer, b"");
+    };
+    match outcome {
+        Ok(_) if telling.style.explain => write_columns_member(writer, catalogue, statement),
+        _ => write_all(writer, b""),
+    }
+}
+
 /// Writes the object of a statement, on a line of its own.
 #[tactic(auto, using(iv_print::proofs::WriteLemmas::writes_then))]
 pub fn write_json_line<W: Sink>(
@@ -99,15 +121,24 @@ pub fn write_json_line<W: Sink>(
     statement: Option<&Statement>,
     outcome: &Outcome,
     catalogue: &Catalogue,
-    account: &[Entry],
+    told: Told<'_>,
 ) -> Result<(), DeviceFault>
     ensures { Writes (W.state writer.old) (W.state writer.new) result
-        (json_line telling.style.explain number (option_copied statement.entry) catalogue.now outcome.now account.now) }
+        (json_line telling.style.explain number (option_copied statement.entry) catalogue.now outcome.now
+        told.entry.account.now told.entry.came.now told.entry.went.now) }
 {
     write_number_key(writer, number)?;
     write_outcome_members(writer, outcome, catalogue)?;
+    write_columns(writer, telling, statement, outcome, catalogue)?;
     write_about(writer, telling, catalogue, statement, outcome)?;
-    write_account_member(writer, telling.style.explain, catalogue, outcome, account)?;
+    write_account_member(
+        writer,
+        telling.style.explain,
+        catalogue,
+        outcome,
+        told.account,
+    )?;
+    write_pending_members(writer, catalogue, told.came, told.went)?;
     write_all(writer, b"}\n")
 }
 

@@ -7,6 +7,8 @@ mod fault_line;
 mod hint;
 mod json_line;
 mod lines;
+mod merging;
+mod news;
 mod place;
 mod read;
 mod running;

@@ -2,18 +2,31 @@
 ghost use Rattle.std.specs.Prelude.{◌++◌, Some};
 ghost use Rattle.std.specs.Option.{option_copied};
 ghost use Rattle.iv_print.specs.AccountLines.{account_text};
-ghost use Rattle.iv_print.specs.Lines.{line};
+ghost use Rattle.iv_print.specs.Lines.{first_line, row_lines};
+ghost use Rattle.iv_print.specs.PendingLines.{pending_lines};
 ghost use Rattle.iv_print.specs.Writing.{Writes};
-ghost use Rattle.iv_script.specs.Transcript.{name_line_of, outcome_lines};
+ghost use Rattle.iv_script.specs.Transcript.{columns_line_of, lines_in, name_line_of, outcome_lines};
 
 use crate::json_line::write_json_line;
 use crate::telling::Telling;
 use iv_account::Entry;
-use iv_catalogue::Catalogue;
-use iv_explain::write_explained_line;
-use iv_print::{DeviceFault, Format, Sink, write_account, write_all, write_outcome};
+use iv_catalogue::{Catalogue, Fault};
+use iv_explain::{write_columns_line, write_explained_line};
+use iv_print::{
+    DeviceFault, Format, Sink, write_account, write_all, write_first_line, write_pending_lines,
+    write_row_lines,
+};
 use iv_step::Outcome;
 use iv_syntax::Statement;
+
+/// What is told of a statement besides its outcome: its account, and the violations of deferred constraints that came
+/// and that went.
+#[derive(Clone, Copy)]
+pub struct Told<'a> {
+    pub account: &'a [Entry],
+    pub came: &'a [Entry],
+    pub went: &'a [Fault],
+}
 
 // Tells more of the refusal of this statement, where accounts are asked for.
 fn write_explained<W: Sink>(
@@ -55,6 +68,26 @@ fn write_name_of<W: Sink>(
     }
 }
 
+// The columns of a query that is accepted, where accounts are asked for and the statement is known.
+fn write_columns<W: Sink>(
+    writer: &mut W,
+    telling: Telling,
+    statement: Option<&Statement>,
+    outcome: &Outcome,
+    catalogue: &Catalogue,
+) -> Result<(), DeviceFault>
+    ensures { Writes (W.state writer.old) (W.state writer.new) result
+        (columns_line_of telling.style.explain catalogue.now (option_copied statement.entry) outcome.now) }
+{
+    let Some(statement) = statement else {
+        return write_all(writer, b"");
+    };
+    match outcome {
+        Ok(_) if telling.style.explain => write_columns_line(writer, catalogue, statement),
+        _ => write_all(writer, b""),
+    }
+}
+
 // The lines in words.
 #[tactic(auto, using(iv_print::proofs::WriteLemmas::writes_then))]
 fn write_words<W: Sink>(
@@ -64,20 +97,48 @@ fn write_words<W: Sink>(
     statement: Option<&Statement>,
     outcome: &Outcome,
     catalogue: &Catalogue,
-    account: &[Entry],
+    told: Told<'_>,
 ) -> Result<(), DeviceFault>
     ensures { Writes (W.state writer.old) (W.state writer.new) result
-        (line number outcome.now catalogue.now
-        ++ (account_text catalogue.now outcome.now account.now
-        ++ name_line_of telling.style.explain catalogue.now (option_copied statement.entry) outcome.now)) }
+        (first_line number outcome.now catalogue.now
+        ++ (columns_line_of telling.style.explain catalogue.now (option_copied statement.entry) outcome.now
+        ++ (row_lines outcome.now
+        ++ (account_text catalogue.now outcome.now told.entry.account.now
+        ++ (name_line_of telling.style.explain catalogue.now (option_copied statement.entry) outcome.now
+        ++ pending_lines catalogue.now told.entry.came.now told.entry.went.now))))) }
 {
-    write_outcome(writer, number, outcome, catalogue)?;
-    write_account(writer, catalogue, outcome, account)?;
-    write_name_of(writer, telling, catalogue, statement, outcome)
+    write_first_line(writer, number, outcome, catalogue)?;
+    write_columns(writer, telling, statement, outcome, catalogue)?;
+    write_row_lines(writer, outcome)?;
+    write_account(writer, catalogue, outcome, told.account)?;
+    write_name_of(writer, telling, catalogue, statement, outcome)?;
+    write_pending_lines(writer, catalogue, told.came, told.went)
 }
 
-/// Writes the lines of a statement's outcome, those of its account, and the name or the reason of a refusal, where
-/// accounts are asked for and the statement is known.
+/// Writes the lines of a statement, with all that is told of it.
+pub(crate) fn write_told<W: Sink>(
+    writer: &mut W,
+    telling: Telling,
+    number: u64,
+    statement: Option<&Statement>,
+    outcome: &Outcome,
+    catalogue: &Catalogue,
+    told: Told<'_>,
+) -> Result<(), DeviceFault>
+    ensures { Writes (W.state writer.old) (W.state writer.new) result
+        (lines_in telling.style.format telling.style.explain number (option_copied statement.entry) catalogue.now
+        outcome.now told.entry.account.now told.entry.came.now told.entry.went.now) }
+{
+    match telling.style.format {
+        Format::Words => write_words(writer, telling, number, statement, outcome, catalogue, told),
+        Format::Json => write_json_line(
+            writer, telling, number, statement, outcome, catalogue, told,
+        ),
+    }
+}
+
+/// Writes the lines of a statement's outcome, those of its account, and, where accounts are asked for and the statement
+/// is known, the columns of a query above its rows, or the name or the reason of a refusal.
 pub fn write_lines<W: Sink>(
     writer: &mut W,
     telling: Telling,
@@ -90,12 +151,10 @@ pub fn write_lines<W: Sink>(
     ensures { Writes (W.state writer.old) (W.state writer.new) result
         (outcome_lines telling.style number (option_copied statement.entry) catalogue.now outcome.now account.now) }
 {
-    match telling.style.format {
-        Format::Words => write_words(
-            writer, telling, number, statement, outcome, catalogue, account,
-        ),
-        Format::Json => write_json_line(
-            writer, telling, number, statement, outcome, catalogue, account,
-        ),
-    }
+    let told = Told {
+        account,
+        came: &[],
+        went: &[],
+    };
+    write_told(writer, telling, number, statement, outcome, catalogue, told)
 }

@@ -158,7 +158,9 @@ fn run_bytes<S: Executor + Drop, W: Sink>(
 ///
 /// A statement that is refused memory has an outcome of its own, with cause 22; the
 /// summary's `memory_refused` counts these, and `refused` counts them too. A COMMIT is never refused memory: where memory is
-/// refused for its account, that is empty, and `untold` counts it. After `RunFault::Write` nothing
+/// refused for its account, that is empty, and `untold` counts it. Inside a transaction a statement tells which violations
+/// of deferred constraints came and went; where memory is refused for that, these lines are left out, the next ones tell the
+/// difference from those that were told last, and `untold` counts it. After `RunFault::Write` nothing
 /// is said of how much was written.
 pub fn run<S: Executor + Drop, R: Source, W: Sink>(
     alloc: Global,
@@ -168,7 +170,7 @@ pub fn run<S: Executor + Drop, R: Source, W: Sink>(
     style: Style,
 ) -> Result<Summary, RunFault>
     // What was written is the transcript, for some choice of the `memory_refused` statements and of the `untold`
-    // accounts.
+    // accounts and lines of what is pending.
     ensures transcript { IfOk result (λ s. IfSome (R.remaining reader.old) (λ bytes.
         RanScript S.sure_store bytes limits style s (W.state writer.old) (W.state writer.new))) }
     // Where both of these are 0, it is the transcript of the machine.

@@ -1,19 +1,22 @@
 //! The statements of a script, run one after the other, with the lines of their outcomes.
-ghost use Rattle.std.specs.Prelude.{◌≡◌, ◌+◌, ◌<◌, ◌≤◌, ◌^◌, MatchResult, Some, if◌then◌else◌};
+ghost use Rattle.std.specs.Prelude.{◌≡◌, ◌+◌, ◌<◌, ◌≤◌, ◌^◌, ◌||◌, IfOk, MatchResult, Some, if◌then◌else◌};
 ghost use Rattle.iv_catalogue.specs.Refusals.{is_memory};
 ghost use Rattle.iv_print.specs.Sinks.{FailsOnce};
 ghost use Rattle.iv_print.specs.Writing.{Writes};
-ghost use Rattle.iv_script.specs.Transcript.{accepted_of, outcome_lines, refused_of};
+ghost use Rattle.iv_step.specs.Pending.{FaultsRise};
+ghost use Rattle.iv_script.specs.Transcript.{accepted_of, lines_in, refused_of};
 ghost use Rattle.iv_script.specs.Running.{RanOne, RanAll};
 
-use crate::lines::write_lines;
+use crate::lines::{Told, write_told};
+use crate::news::{News, news_after};
 use crate::telling::Telling;
+use iv_catalogue::Fault;
 use iv_print::{DeviceFault, Sink};
 use iv_step::{Executor, Outcome, is_memory_refused};
 use iv_syntax::Statement;
 
 /// How many statements were accepted and refused, how many of the refused had cause 22, and for how many accounts of
-/// COMMITs memory was refused.
+/// COMMITs and lines of what is pending memory was refused.
 #[derive(Clone, Copy, Debug, PartialEq, Eq)]
 pub struct Tally {
     pub accepted: u64,
@@ -30,7 +33,14 @@ fn one_if(condition: bool) -> u64
     if condition { 1 } else { 0 }
 }
 
-// The tally with an outcome more, whose account is empty or isn't since memory was refused for it.
+/// How far a run is: the tally, and the pending violations that were listed last.
+#[derive(Drop)]
+pub struct Point {
+    pub tally: Tally,
+    pub listed: Vec<Fault>,
+}
+
+// The tally with an outcome more. Memory was refused for its account or for the lines of what is pending, or it wasn't.
 fn with(tally: Tally, outcome: &Outcome, untold: bool) -> Tally
     requires accepted { tally.accepted < 2 ^ 63 }
     requires refused { tally.refused < 2 ^ 63 }
@@ -59,7 +69,7 @@ fn with(tally: Tally, outcome: &Outcome, untold: bool) -> Tally
     }
 }
 
-// Writes the lines of a statement, with the account that the session has.
+// Writes the lines of a statement, with the account that the session has, and these news.
 fn write_statement<S: Executor, W: Sink>(
     writer: &mut W,
     number: u64,
@@ -67,20 +77,41 @@ fn write_statement<S: Executor, W: Sink>(
     outcome: &Outcome,
     session: &S,
     telling: Telling,
+    news: &News,
 ) -> Result<(), DeviceFault>
     ensures { Writes (W.state writer.old) (W.state writer.new) result
-        (outcome_lines telling.style number (Some statement.now) (S.state session.now).schema outcome.now (S.told session.now).entries) }
+        (lines_in telling.style.format telling.style.explain number (Some statement.now)
+        (S.state session.now).schema outcome.now (S.told session.now).entries news.now.came.entries news.now.went.items) }
 {
+    let told = Told {
+        account: session.account(),
+        came: news.came.entries(),
+        went: news.went.as_slice(),
+    };
     let catalogue = session.catalogue();
-    write_lines(
+    write_told(
         writer,
         telling,
         number,
         Some(statement),
         outcome,
         catalogue,
-        session.account(),
+        told,
     )
+}
+
+// Whether memory was refused to a statement, or to its account.
+fn is_refused<S: Executor>(session: &S, outcome: &Outcome) -> bool
+    ensures { result ≡ (is_memory outcome.now || (S.told session.now).untold) }
+{
+    is_memory_refused(outcome) || session.is_untold()
+}
+
+// Whether memory was refused to the account of a statement, or to the lines of what is pending.
+fn is_untold<S: Executor>(session: &S, news: &News) -> bool
+    ensures { result ≡ ((S.told session.now).untold || news.now.is_refused) }
+{
+    session.is_untold() || news.is_refused
 }
 
 // Runs one statement and writes its lines.
@@ -90,26 +121,51 @@ fn run_one<S: Executor, W: Sink>(
     number: u64,
     statement: &Statement,
     writer: &mut W,
-    tally: Tally,
-) -> Result<Tally, DeviceFault>
+    point: Point,
+) -> Result<Point, DeviceFault>
     requires asked { telling.style.explain ≡ (S.told session.old).asked }
-    requires accepted { tally.accepted < 2 ^ 63 }
-    requires refused { tally.refused < 2 ^ 63 }
-    requires memory_refused { tally.memory_refused < 2 ^ 63 }
-    requires untold { tally.untold < 2 ^ 63 }
+    requires accepted { point.tally.accepted < 2 ^ 63 }
+    requires refused { point.tally.refused < 2 ^ 63 }
+    requires memory_refused { point.tally.memory_refused < 2 ^ 63 }
+    requires untold { point.tally.untold < 2 ^ 63 }
+    requires rise { FaultsRise point.listed.items }
     ensures ran { MatchResult result
-        (λ t. RanOne S.sure_store telling.style number
-        (S.state session.old) (S.state session.new) statement.now tally t
+        (λ p. RanOne S.sure_store telling.style number
+        (S.state session.old) (S.state session.new) point.listed.items p.listed.items statement.now point.tally p.tally
         (W.state writer.old) (W.state writer.new))
         (λ _. FailsOnce (W.state writer.old) (W.state writer.new)) }
     ensures asked { (S.told session.new).asked ≡ (S.told session.old).asked }
+    ensures rise { IfOk result (λ p. FaultsRise p.listed.items) }
 {
+    let Point { tally, listed } = point;
     let outcome = session.execute(statement);
-    let written = write_statement(writer, number, statement, &outcome, &*session, telling);
-    let counted = with(tally, &outcome, session.is_untold());
+    let refused = is_refused(&*session, &outcome);
+    let news = news_after(
+        telling.alloc,
+        &*session,
+        telling.style.explain,
+        refused,
+        listed,
+    );
+    let written = write_statement(
+        writer, number, statement, &outcome, &*session, telling, &news,
+    );
+    let untold = is_untold(&*session, &news);
+    let counted = with(tally, &outcome, untold);
     drop(outcome);
+    let News {
+        came,
+        went,
+        listed,
+        is_refused: _,
+    } = news;
+    drop(came);
+    drop(went);
     written?;
-    Ok(counted)
+    Ok(Point {
+        tally: counted,
+        listed,
+    })
 }
 
 /// Runs the statements and writes their lines.
@@ -127,16 +183,21 @@ pub fn run_statements<S: Executor, W: Sink>(
 {
     let mut rest = statements;
     let mut number = 0u64;
-    let mut tally = Tally {
-        accepted: 0,
-        refused: 0,
-        memory_refused: 0,
-        untold: 0,
+    let mut point = Point {
+        tally: Tally {
+            accepted: 0,
+            refused: 0,
+            memory_refused: 0,
+            untold: 0,
+        },
+        listed: Vec::new(telling.alloc),
     };
     while let Some((statement, others)) = rest.split_first() {
         number += 1;
-        tally = run_one(session, telling, number, statement, writer, tally)?;
+        point = run_one(session, telling, number, statement, writer, point)?;
         rest = others;
     }
+    let Point { tally, listed } = point;
+    drop(listed);
     Ok(tally)
 }

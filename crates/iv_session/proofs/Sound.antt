@@ -1,21 +1,24 @@
 -- A session's state is one that statements reach.
-use Rattle.std.proofs.Common.{◌≡◌, Bool, true, false, [], None, Some, Option, Result, Ok, Err, refl, sym, ap, subst, MatchBool, OnOk, is_some}
+use Rattle.std.proofs.Common.{◌≡◌, Bool, true, false, [], None, Some, Option, Result, Ok, Err, refl, sym, ap, subst, MatchBool, IfOk, OnOk, is_some, List}
 use Rattle.iv_session.specs.Types.{Statement, Refusal, Answer}
 use Rattle.iv_catalogue.specs.declared.plan.TransactionPlan.{TransactionPlan}
 use Rattle.iv_catalogue.specs.declared.plan.Plan.TheVariants as plan
 use Rattle.iv_catalogue.specs.Refusals.{is_memory, out_of_memory}
 use Rattle.iv_laws_levels.specs.Reached.{planned}
 use Rattle.iv_laws_levels.proofs.ReachedStates.{reachable_is_sound}
-use Rattle.iv_machine.specs.declared.database.Which.TheVariants.{All}
+use Rattle.iv_machine.specs.declared.database.Which.TheVariants.{All, Deferred}
 use Rattle.iv_machine.specs.Databases.{is_chosen, scan}
 use Rattle.iv_catalogue.specs.declared.plan.TransactionPlan.TheVariants as transaction
 use Rattle.iv_machine.specs.declared.database.Database.{Database}
 use Rattle.iv_machine.specs.Machine.{State, Outcome, commit_outcome, is_open, IsMemoryRefusal, changes_rows, occasion_of, outcome_unless, resolution_outcome, rollback_outcome, transaction_cause}
 use Rattle.iv_catalogue.specs.declared.cause.Cause.{Cause}
+use Rattle.iv_catalogue.specs.declared.cause.Fault.{Fault}
 use Rattle.iv_resolution.specs.Resolution.{resolution}
 use Rattle.iv_state.proofs.Performed.{always_runs}
+use Rattle.iv_step.specs.Pending.{FaultsRise, pending}
 use Rattle.iv_step.specs.Step.{step}
 use Rattle.iv_step.proofs.Reached.{IsReached, control_reached, step_reached}
+use Rattle.iv_step.proofs.ScansRise.{scan_rises}
 use Rattle.iv_state.specs.Kept.{Seen}
 use Rattle.iv_state.specs.Performing.{Did, Performs, Runs}
 
@@ -36,6 +39,12 @@ performs_reached s t r x h performs = by (is_memory r) performs where
 -- outside a transaction no constraint is violated
 pub unviolated : (s : State) → IsReached s → s.start ≡ None → scan s.database.rows s.schema.constraints (is_chosen s.modes All) ≡ []
 unviolated s h e = ((reachable_is_sound s h.reachable).outside e).unviolated
+
+-- the violations of deferred constraints are in order
+pub listed_rise : {V E : Type 0} (s : State) (r : Result V E) (faults : V → List Fault) → IsReached s → IfOk r (λ v. faults v ≡ pending s) → IfOk r (λ v. FaultsRise (faults v))
+listed_rise s (Err e) faults h f = tt
+listed_rise s (Ok v) faults h f =
+    subst FaultsRise (sym f) (scan_rises s.database.rows s.database.next s.schema.constraints (is_chosen s.modes Deferred) (reachable_is_sound s h.reachable).rising)
 
 -- what a statement that may run resolves to leads to such a state
 pub resolved_reached : (s : State) (st : Statement) (r : Result Answer Refusal) (x : Seen) → IsReached s → transaction_cause (is_open s) (occasion_of st) ≡ None

@@ -1,8 +1,8 @@
 //! A session as an `Executor`.
 
 use crate::session::Session;
-use iv_account::Entry;
-use iv_catalogue::Catalogue;
+use iv_account::{Account, Entry};
+use iv_catalogue::{Catalogue, Fault};
 use iv_machine::Limits;
 use iv_step::{Executor, Outcome};
 use iv_store::Keeper;
@@ -38,6 +38,14 @@ impl<K: Keeper + Drop> Executor for Session<K> {
 
     fn in_transaction(&self) -> bool {
         self.in_transaction()
+    }
+
+    fn pending(&self) -> Result<Vec<Fault>, AllocError> {
+        self.pending()
+    }
+
+    fn violations(&self, faults: &[Fault]) -> Result<Account, AllocError> {
+        self.violations(faults)
     }
 
     fn execute(&mut self, statement: &Statement) -> Outcome {

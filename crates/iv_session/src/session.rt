@@ -7,6 +7,7 @@ ghost use Rattle.iv_machine.specs.Machine.{commit_outcome, empty_state, inside, 
 ghost use Rattle.iv_machine.specs.Machine.{rollback_to_outcome, savepoint_named, transaction_cause};
 ghost use Rattle.iv_account.specs.Sessions.{commit_told};
 ghost use Rattle.iv_account.specs.Telling.{MayTell, no_account};
+ghost use Rattle.iv_step.specs.Pending.{FaultsRise, violations_told};
 ghost use Rattle.iv_state.specs.Kept.{with_account};
 ghost use Rattle.iv_state.specs.Ending.{commit_answer};
 ghost use Rattle.iv_state.specs.Performing.{Performs};
@@ -147,11 +148,20 @@ impl<K: Keeper + Drop> Session<K> {
 
     /// The violations of deferred constraints, in creation order of the constraints, then by row.
     pub fn pending(&self) -> Result<Vec<Fault>, AllocError>
-        ensures { IfOk result (λ faults. faults.items ≡
+        ensures faults { IfOk result (λ faults. faults.items ≡
             scan self.now.state.database.rows self.now.state.schema.constraints
             (is_chosen self.now.state.modes Deferred)) }
+        ensures rise { IfOk result (λ faults. FaultsRise faults.items) }
     {
         self.state.pending()
+    }
+
+    /// What an account tells of these violations, of rows as they are now.
+    pub fn violations(&self, faults: &[Fault]) -> Result<Account, AllocError>
+        ensures { IfOk result (λ account. account.entries
+            ≡ violations_told self.now.state faults.now) }
+    {
+        self.state.violations(faults)
     }
 
     /// How many violations of deferred constraints there are; the count stays at 2^64 - 1 once it is there. It

@@ -1,5 +1,5 @@
 //! The violations for which COMMIT and SET CONSTRAINTS are refused, as an account records them.
-ghost use Rattle.std.specs.Prelude.{◌≡◌, filter, not, true, OnOk};
+ghost use Rattle.std.specs.Prelude.{◌≡◌, filter, not, true, IfOk, OnOk};
 ghost use Rattle.iv_account.specs.Accounts.{faults_told};
 ghost use Rattle.iv_account.specs.Sessions.{commit_told, modes_told};
 ghost use Rattle.iv_account.specs.Telling.{MayTell, and_told};
@@ -77,6 +77,16 @@ impl<K: Keeper + Drop> SessionState<K> {
         }
         let faults = self.store.list_faults(self.modes(), Which::All)?;
         tell_faults(&self.store, &self.catalogue, faults.as_slice(), account)
+    }
+
+    /// What an account tells of these violations.
+    pub fn violations(&self, faults: &[Fault]) -> Result<Account, AllocError>
+        ensures { IfOk result (λ account. account.entries
+            ≡ faults_told self.now.state.schema self.now.state.database.rows faults.now) }
+    {
+        let mut account = Account::new(self.allocator(), true);
+        tell_faults(&self.store, &self.catalogue, faults, &mut account)?;
+        Ok(account)
     }
 
     /// Records what COMMIT is refused for, if an account is asked for. If an allocation fails, the account is empty and

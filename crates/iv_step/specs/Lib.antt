@@ -4,3 +4,4 @@ pub mod Laws
 pub mod Refusals
 pub mod Worked
 pub mod Telling
+pub mod Pending

@@ -2,13 +2,14 @@
 ghost use Rattle.std.specs.Prelude.{◌≡◌, Bool, true, false, IfOk, is_some};
 ghost use Rattle.iv_catalogue.specs.Refusals.{is_memory};
 ghost use Rattle.iv_machine.specs.Machine.{State, empty_state};
-ghost use Rattle.iv_account.specs.Telling.{Account, no_account};
+ghost use Rattle.iv_account.specs.Telling as telling;
+ghost use Rattle.iv_step.specs.Pending.{FaultsRise, pending, violations_told};
 ghost use Rattle.iv_step.specs.Step.{Executes, takes_no_memory};
 ghost use Rattle.iv_step.specs.Sure.{is_rollback_to};
 ghost use Rattle.iv_step.specs.Telling.{Tells};
 
-use iv_account::Entry;
-use iv_catalogue::{Catalogue, Cause, Refusal};
+use iv_account::{Account, Entry};
+use iv_catalogue::{Catalogue, Cause, Fault, Refusal};
 use iv_machine::{Answer, Limits};
 use iv_syntax::Statement;
 use std::alloc::{AllocError, Global};
@@ -32,7 +33,7 @@ pub trait Executor {
     ghost state: { Self → State };
 
     /// The account of the last statement, if it is asked for.
-    ghost told: { Self → Account };
+    ghost told: { Self → telling.Account };
 
     /// Whether ROLLBACK TO SAVEPOINT allocates nothing.
     ghost sure_store: { Bool };
@@ -42,12 +43,12 @@ pub trait Executor {
     where
         Self: Sized,
         ensures state { IfOk result (λ s. state s ≡ empty_state limits) }
-        ensures told { IfOk result (λ s. told s ≡ no_account false) };
+        ensures told { IfOk result (λ s. told s ≡ telling.no_account false) };
 
     /// Turns accounts on or off, and clears the account of the last statement.
     fn explain(&mut self, asked: bool)
         ensures state { state self.new ≡ state self.old }
-        ensures told { told self.new ≡ no_account asked };
+        ensures told { told self.new ≡ telling.no_account asked };
 
     /// The account of the last statement, if it was asked for.
     fn account(&self) -> &[Entry]
@@ -64,6 +65,16 @@ pub trait Executor {
     /// Whether a transaction is open.
     fn in_transaction(&self) -> bool
         ensures { result ≡ is_some (state self.now).start };
+
+    /// The violations of deferred constraints.
+    fn pending(&self) -> Result<Vec<Fault>, AllocError>
+        ensures faults { IfOk result (λ faults. faults.items ≡ pending (state self.now)) }
+        ensures rise { IfOk result (λ faults. FaultsRise faults.items) };
+
+    /// What an account tells of these violations.
+    fn violations(&self, faults: &[Fault]) -> Result<Account, AllocError>
+        ensures { IfOk result (λ account. account.entries
+            ≡ violations_told (state self.now) faults.now) };
 
     /// Executes a statement. The answer and the next state are the machine's, or an allocation failed and the state is
     /// as before.

@@ -1,5 +1,6 @@
 //! Laws of runs, as contracts of functions that do nothing.
 ghost use Rattle.iv_step.specs.Laws.{PlansKeepTheOccasion, ReachedStatesAreSound};
+ghost use Rattle.iv_step.specs.Pending.{DifferencesLead};
 ghost use Rattle.iv_step.specs.Refusals.{RefusalsChangeNothing};
 ghost use Rattle.iv_step.specs.Worked.{WorkedScripts};
 
@@ -26,4 +27,9 @@ pub fn refusals_change_nothing()
 /// Worked scripts of parsed statements answer what they should.
 pub fn worked_scripts()
     ensures { WorkedScripts }
+{}
+
+/// The pending violations before a statement, without those that went and with those that came, are those after it.
+pub fn differences_lead()
+    ensures { DifferencesLead }
 {}

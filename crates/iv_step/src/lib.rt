@@ -7,5 +7,6 @@ mod laws;
 
 pub use executor::{Executor, Outcome, is_memory_refused};
 pub use laws::{
-    plans_keep_the_occasion, reached_states_are_sound, refusals_change_nothing, worked_scripts,
+    differences_lead, plans_keep_the_occasion, reached_states_are_sound, refusals_change_nothing,
+    worked_scripts,
 };

@@ -96,6 +96,7 @@ fn laws_of_rows_are_called(rt: HostRuntime) {
 
 #[test]
 fn laws_of_runs_are_called(rt: HostRuntime) {
+    iv_step::differences_lead();
     iv_step::plans_keep_the_occasion();
     iv_step::reached_states_are_sound();
     iv_step::refusals_change_nothing();

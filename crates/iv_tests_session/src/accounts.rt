@@ -8,6 +8,12 @@ const CASCADE: &str =
 const SAME_KEY: &str =
     "CREATE TABLE p (k INT PRIMARY KEY); INSERT INTO p VALUES (7); INSERT INTO p VALUES (8), (7);";
 
+const SKIPPED: &str =
+    "CREATE TABLE t (a INT); CREATE TABLE u (a INT); CREATE TRIGGER b BEFORE INSERT ON t WHEN (NULL > 0) SIGNAL 'no'; CREATE TRIGGER r AFTER INSERT ON t REFERENCING NEW AS n FOR EACH ROW WHEN (n.a > 1) DELETE FROM u; INSERT INTO t VALUES (1), (2);";
+
+const CONFLICT: &str =
+    "CREATE TABLE p (k INT UNIQUE, l INT UNIQUE); CREATE TABLE c (x INT CONSTRAINT f REFERENCES p (k) ON UPDATE SET NULL CONSTRAINT g REFERENCES p (l) ON UPDATE CASCADE); INSERT INTO p VALUES (5, 5); INSERT INTO c VALUES (5); UPDATE p SET k = 6, l = 7;";
+
 const DEFERRED: &str =
     "CREATE TABLE t (a INT, CONSTRAINT pos CHECK (a > 0) INITIALLY DEFERRED); INSERT INTO t VALUES (0), (1), (-1);";
 
@@ -38,6 +44,28 @@ fn both_rows_of_a_key_are_told(rt: HostRuntime) {
     )
 }
 
+// B is asked once, and R for each row: of OLD and NEW it sees NEW. The DELETE of R finds no row.
+#[test]
+fn skipped_triggers_are_told(rt: HostRuntime) {
+    static CALLS: [Call; 3] = [Call::Explain(true), Call::Execute, Call::Account];
+    let wanted =
+        "skipped 0 false false unknown; changed 1 2; skipped 1 false true false; ran 1 false true 0; began 1; ended; ";
+    shows::<PlainStore>(&rt, rt.alloc(), SKIPPED, &CALLS, wanted)
+}
+
+// F is the constraint at place 2, and G that at place 3.
+#[test]
+fn two_foreign_keys_that_disagree_are_told(rt: HostRuntime) {
+    static CALLS: [Call; 3] = [Call::Explain(true), Call::Execute, Call::Account];
+    shows::<PlainStore>(
+        &rt,
+        rt.alloc(),
+        CONFLICT,
+        &CALLS,
+        "changed 1; disagreed 3 2 with 2 about 0, 2; ",
+    )
+}
+
 #[test]
 fn all_violations_of_a_commit_are_told(rt: HostRuntime) {
     static CALLS: [Call; 4] = [
@@ -64,4 +92,16 @@ fn a_rollback_is_told_nothing(rt: HostRuntime) {
         Call::Account,
     ];
     shows::<PlainStore>(&rt, rt.alloc(), DEFERRED, &CALLS, "")
+}
+
+#[test]
+fn what_is_pending_is_told_with_its_rows(rt: HostRuntime) {
+    static CALLS: [Call; 2] = [Call::Execute, Call::Violations];
+    shows::<PlainStore>(
+        &rt,
+        rt.alloc(),
+        DEFERRED,
+        &CALLS,
+        "faulted 0 1, 1; faulted 0 3, 3; ",
+    )
 }

@@ -34,6 +34,8 @@ pub enum Call {
     Explain(bool),
     /// The account of the last statement or call.
     Account,
+    /// What an account tells of what is pending.
+    Violations,
     Commit,
     /// A COMMIT of which nothing is added.
     CommitUnseen,
@@ -90,6 +92,13 @@ fn show_pending<K: Keeper + Drop>(rt: &impl Abort, session: &Session<K>, shown: 
         show_fault(rt, "", fault, ", ", shown);
     }
     show_number(rt, "", session.pending_count(), "; ", shown)
+}
+
+// What an account tells of the violations that are pending.
+fn show_violations<K: Keeper + Drop>(rt: &impl Abort, session: &Session<K>, shown: &mut String) {
+    let pending = session.pending().expect(rt, "memory");
+    let told = session.violations(pending.as_slice()).expect(rt, "memory");
+    show_account(rt, told.entries(), shown)
 }
 
 // Runs each statement by itself, and shows what is pending after it if that is wanted.
@@ -177,6 +186,7 @@ fn make_call<K: Keeper + Drop>(
             session.explain(*asked);
         }
         Call::Account => show_account(rt, session.account(), shown),
+        Call::Violations => show_violations(rt, session, shown),
         Call::Commit => commit(rt, session, shown),
         Call::CommitUnseen => {
             let _ = session.commit();

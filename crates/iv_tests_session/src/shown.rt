@@ -1,11 +1,12 @@
 //! Answers as text. One function writes a number, one drops an outcome, and one compares: each of these is much code to
 //! prove.
-use iv_account::{Entry, RowAction, TriggerView};
+use iv_account::{Disagreement, Entry, RowAction, SkippedView, TriggerView};
 use iv_catalogue::{Catalogue, Cause, Fault, TriggerId};
 use iv_expr::StoredRow;
 use iv_machine::Answer;
 use iv_session::{Outcome, Work};
 use iv_syntax::ConstraintMode;
+use iv_value::Truth;
 use std::panic::Expect;
 use std::process::Abort;
 
@@ -93,6 +94,28 @@ fn show_seen(rt: &impl Abort, trigger: &TriggerId, seen: &TriggerView, shown: &m
     show_number(rt, " ", seen.transition.len() as u64, "", shown)
 }
 
+fn truth_word(truth: Truth) -> &'static str {
+    match truth {
+        Truth::True => " true",
+        Truth::False => " false",
+        Truth::Unknown => " unknown",
+    }
+}
+
+// The trigger's place, whether it saw OLD and NEW, and what its WHEN was.
+fn show_skipped(rt: &impl Abort, trigger: &TriggerId, seen: &SkippedView, shown: &mut String) {
+    show_number(rt, "skipped ", trigger.place() as u64, "", shown);
+    show(rt, word_of(seen.old.is_some()), shown);
+    show(rt, word_of(seen.new.is_some()), shown);
+    show(rt, truth_word(seen.when), shown)
+}
+
+// The places of the earlier foreign key and of the column.
+fn show_disagreement(rt: &impl Abort, how: &Disagreement, shown: &mut String) {
+    show_number(rt, " with ", how.earlier.place() as u64, "", shown);
+    show_number(rt, " about ", u64::from(how.column), "", shown)
+}
+
 fn show_actions(rt: &impl Abort, actions: &[RowAction], shown: &mut String) {
     show(rt, "acted", shown);
     for action in actions {
@@ -112,11 +135,19 @@ fn show_changes(rt: &impl Abort, entry: &Entry, shown: &mut String) {
 
 // The rows that are told with a violation.
 fn show_rows(rt: &impl Abort, entry: &Entry, shown: &mut String) {
-    if let Entry::Faulted(_, rows) = entry {
-        for row in rows.as_slice() {
-            show_number(rt, ", ", row.number, "", shown);
-        }
+    let rows = match entry {
+        Entry::Faulted(_, rows) => rows.as_slice(),
+        Entry::Disagreed(_, rows, _) => rows.as_slice(),
+        _ => &[],
+    };
+    for row in rows {
+        show_number(rt, ", ", row.number, "", shown);
     }
+}
+
+fn show_fault(rt: &impl Abort, before: &str, fault: &Fault, shown: &mut String) {
+    show_number(rt, before, fault.constraint.place() as u64, " ", shown);
+    show_number(rt, "", fault.row, "", shown)
 }
 
 // An entry in words, without an end.
@@ -128,11 +159,16 @@ fn show_entry(rt: &impl Abort, entry: &Entry, shown: &mut String) {
         }
         Entry::Acted(actions) => show_actions(rt, actions.as_slice(), shown),
         Entry::Ran(trigger, seen) => show_seen(rt, trigger, seen, shown),
+        Entry::Skipped(trigger, seen) => show_skipped(rt, trigger, seen, shown),
         Entry::Began(place) => show_number(rt, "began ", u64::from(*place), "", shown),
         Entry::Ended => show(rt, "ended", shown),
         Entry::Faulted(fault, _) => {
-            show_number(rt, "faulted ", fault.constraint.place() as u64, " ", shown);
-            show_number(rt, "", fault.row, "", shown);
+            show_fault(rt, "faulted ", fault, shown);
+            show_rows(rt, entry, shown)
+        }
+        Entry::Disagreed(fault, _, how) => {
+            show_fault(rt, "disagreed ", fault, shown);
+            show_disagreement(rt, how, shown);
             show_rows(rt, entry, shown)
         }
     }

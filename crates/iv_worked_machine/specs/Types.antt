@@ -2,6 +2,8 @@
 pub use Rattle.iv_value.specs.declared.value.Value.{Value}
 pub use Rattle.iv_value.specs.declared.value.Value.TheVariants as value
 pub use Rattle.iv_value.specs.declared.value.Kind.TheVariants as kind
+pub use Rattle.iv_value.specs.declared.value.Truth.{Truth}
+pub use Rattle.iv_value.specs.declared.value.Truth.TheVariants as truth
 pub use Rattle.iv_expr.specs.declared.row.Change.{Change}
 pub use Rattle.iv_expr.specs.declared.row.StoredRow.{StoredRow}
 pub use Rattle.iv_expr.specs.declared.tree.Comparison.{Comparison}
@@ -60,5 +62,7 @@ pub use Rattle.iv_machine.specs.declared.answer.Answer.TheVariants as answer
 pub use Rattle.iv_machine.specs.declared.database.Which.TheVariants as which
 pub use Rattle.iv_account.specs.declared.entry.Entry.{Entry}
 pub use Rattle.iv_account.specs.declared.entry.Entry.TheVariants as entry
+pub use Rattle.iv_account.specs.declared.entry.Disagreement.{Disagreement}
 pub use Rattle.iv_account.specs.declared.entry.RowAction.{RowAction}
+pub use Rattle.iv_account.specs.declared.entry.SkippedView.{SkippedView}
 pub use Rattle.iv_account.specs.declared.entry.TriggerView.{TriggerView}

@@ -3,10 +3,12 @@
 -- from 1.
 use Rattle.std.specs.Prelude.{◌≡◌, ℕ, List, [], ◌∷◌, map, Some, None}
 use Rattle.iv_expr.specs.Trees.{plus, times}
-use Rattle.iv_worked_machine.specs.Types.{Value, StoredRow, Change, ReferentialAction, Plan, Entry, RowAction, TriggerView}
+use Rattle.iv_worked_machine.specs.Types.{Value, Truth, StoredRow, Change, Constraint, ReferentialAction, Plan, Entry, RowAction, TriggerView, SkippedView, Disagreement}
 use Rattle.iv_worked_machine.specs.Types.value.{Null}
+use Rattle.iv_worked_machine.specs.Types.truth.{False, Unknown}
 use Rattle.iv_worked_machine.specs.Types.comparison.{Equal, Less, Greater}
 use Rattle.iv_worked_machine.specs.Types.cond.{Always, Compare}
+use Rattle.iv_worked_machine.specs.Types.matching.{Simple}
 use Rattle.iv_worked_machine.specs.Types.mode.{Immediate}
 use Rattle.iv_worked_machine.specs.Types.nulls.{Distinct, NotDistinct}
 use Rattle.iv_worked_machine.specs.Types.referential_action.{NoAction, Restrict, Cascade, SetNull}
@@ -14,8 +16,8 @@ use Rattle.iv_worked_machine.specs.Types.time.{Before, After}
 use Rattle.iv_worked_machine.specs.Types.event
 use Rattle.iv_worked_machine.specs.Types.granularity.{Row, Statement}
 use Rattle.iv_worked_machine.specs.Types.rule
-use Rattle.iv_worked_machine.specs.Types.entry.{Changed, Acted, Ran, Began, Ended, Faulted}
-use Rattle.iv_worked_machine.specs.WorkedPlans.{number, numbers, null, column, old, new, where_column, integer_column, not_deferrable, initially_deferred, references_rule, create_table, setting, insert, insert_row, insert_value, update, update_all, delete, delete_all, create_trigger, create_update_of, inserts, sets, signals, set_all, set_these, set_one, start, commit}
+use Rattle.iv_worked_machine.specs.Types.entry.{Changed, Acted, Ran, Skipped, Began, Ended, Faulted, Disagreed}
+use Rattle.iv_worked_machine.specs.WorkedPlans.{number, numbers, null, column, old, new, where_column, integer_column, not_deferrable, initially_deferred, foreign_key_rule, references_rule, create_table, setting, insert, insert_row, insert_value, update, update_all, delete, delete_all, create_trigger, create_update_of, inserts, sets, signals, set_all, set_these, set_one, start, commit}
 use Rattle.iv_worked_machine.specs.WorkedAnswers.{int, fault, with_change_count, told_from, told, told_within}
 use Rattle.iv_machine.specs.Machine.{empty_state}
 
@@ -61,6 +63,16 @@ saw_new after = record { old = None; new = Some (ints after); transition = [] }
 abbrev pub saw_both : List ℕ → List ℕ → TriggerView
 saw_both before after = record { old = Some (ints before); new = Some (ints after); transition = [] }
 
+-- a trigger that is skipped saw this
+abbrev pub without : Truth → SkippedView
+without when = record { old = None; new = None; when = when }
+
+abbrev pub without_new : List ℕ → Truth → SkippedView
+without_new after when = record { old = None; new = Some (ints after); when = when }
+
+abbrev pub without_old : List ℕ → Truth → SkippedView
+without_old before when = record { old = Some (ints before); new = None; when = when }
+
 -- a statement trigger saw these changes
 abbrev pub saw : List Change → TriggerView
 saw changes = record { old = None; new = None; transition = changes }
@@ -89,6 +101,20 @@ abbrev pub both_violations : List Entry
 both_violations =
     Faulted (fault 0 1) (record { table = 0; number = 1; values = Null ∷ int 3 ∷ [] } ∷ [])
     ∷ Faulted (fault 1 2) (stored 0 2 (1 ∷ 9 ∷ []) ∷ []) ∷ []
+
+-- a foreign key of table 1 whose columns refer to both columns of table 0, with its action for an update
+abbrev pub refers_to_both : List ℕ × ReferentialAction → Constraint
+refers_to_both key = not_deferrable 1 (foreign_key_rule key.0 0 (0 ∷ 1 ∷ []) Simple NoAction key.1)
+
+-- CREATE TABLE p (k INT, m INT, PRIMARY KEY (k, m)); CREATE TABLE c (x INT, y INT, z INT, ..) with these foreign keys; INSERT INTO p
+-- VALUES (1, 1); INSERT INTO c VALUES (1, 1, 1); UPDATE p SET k = 5, m = 6;
+abbrev pub both_columns_referenced : List ℕ × ReferentialAction → List ℕ × ReferentialAction → List ℕ × ReferentialAction → List Plan
+both_columns_referenced first second third =
+    create_table (integer_column ∷ integer_column ∷ []) (not_deferrable 0 (rule.PrimaryKey (0 ∷ 1 ∷ [])) ∷ [])
+    ∷ create_table (integer_column ∷ integer_column ∷ integer_column ∷ [])
+    (refers_to_both first ∷ refers_to_both second ∷ refers_to_both third ∷ [])
+    ∷ insert_row 0 (numbers (1 ∷ 1 ∷ [])) ∷ insert_row 1 (numbers (1 ∷ 1 ∷ 1 ∷ []))
+    ∷ update 0 (setting 0 (number 5) ∷ setting 1 (number 6) ∷ []) Always ∷ []
 
 pub record WorkedAccounts : Type 0 where
   -- CREATE TABLE t (a INT); INSERT INTO t VALUES (4), (7);
@@ -164,14 +190,41 @@ pub record WorkedAccounts : Type 0 where
       ∷ []
   -- CREATE TABLE t (a INT); CREATE TRIGGER b BEFORE INSERT ON t REFERENCING NEW AS n FOR EACH ROW WHEN
   -- (n.a > 5) SET n.a = n.a * 2; CREATE TRIGGER r AFTER INSERT ON t REFERENCING NEW AS n FOR EACH ROW
-  -- WHEN (n.a > 20) SIGNAL 'stop'; INSERT INTO t VALUES (4), (6);
+  -- WHEN (n.a > 20) SIGNAL 'stop'; INSERT INTO t VALUES (4), (6); each trigger is skipped for the rows of which its condition
+  -- is false
   pub trigger_whose_condition_is_false : told (
       create_table (integer_column ∷ []) []
       ∷ create_trigger 0 0 Before event.Insert Row (Compare Greater (new 0) (number 5))
       (sets 0 (times (new 0) (number 2)) ∷ [])
       ∷ create_trigger 1 0 After event.Insert Row (Compare Greater (new 0) (number 20)) (signals ∷ [])
       ∷ insert 0 (numbers (4 ∷ []) ∷ numbers (6 ∷ []) ∷ []) ∷ [])
-      ≡ Ran 0 (saw_new (6 ∷ [])) ∷ Changed (inserted 0 1 (4 ∷ []) ∷ inserted 0 2 (12 ∷ []) ∷ []) ∷ []
+      ≡ Skipped 0 (without_new (4 ∷ []) False) ∷ Ran 0 (saw_new (6 ∷ []))
+      ∷ Changed (inserted 0 1 (4 ∷ []) ∷ inserted 0 2 (12 ∷ []) ∷ [])
+      ∷ Skipped 1 (without_new (4 ∷ []) False) ∷ Skipped 1 (without_new (12 ∷ []) False) ∷ []
+  -- CREATE TABLE t (a INT); CREATE TRIGGER b BEFORE INSERT ON t WHEN (NULL > 5) SIGNAL 'stop'; CREATE TRIGGER r AFTER INSERT ON t
+  -- WHEN (1 > 5) SIGNAL 'stop'; CREATE TRIGGER d AFTER DELETE ON t WHEN (1 > 5) SIGNAL 'stop'; INSERT INTO t VALUES (4), (6); a
+  -- statement trigger is skipped once, and tells no rows; one that is on another event isn't asked
+  pub statement_triggers_are_skipped : told (
+      create_table (integer_column ∷ []) []
+      ∷ create_trigger 0 0 Before event.Insert Statement (Compare Greater null (number 5)) (signals ∷ [])
+      ∷ create_trigger 1 0 After event.Insert Statement (Compare Greater (number 1) (number 5)) (signals ∷ [])
+      ∷ create_trigger 2 0 After event.Delete Statement (Compare Greater (number 1) (number 5)) (signals ∷ [])
+      ∷ insert 0 (numbers (4 ∷ []) ∷ numbers (6 ∷ []) ∷ []) ∷ [])
+      ≡ Skipped 0 (without Unknown) ∷ Changed (inserted 0 1 (4 ∷ []) ∷ inserted 0 2 (6 ∷ []) ∷ []) ∷ Skipped 1 (without False) ∷ []
+  -- CREATE TABLE t (a INT); CREATE TRIGGER r AFTER DELETE ON t REFERENCING OLD AS o FOR EACH ROW WHEN (o.a > 5) SIGNAL 'stop';
+  -- INSERT INTO t VALUES (4), (6); DELETE FROM t; the trigger is skipped for the first row, and runs for the second
+  pub skipped_before_one_that_runs : told (
+      create_table (integer_column ∷ []) []
+      ∷ create_trigger 0 0 After event.Delete Row (Compare Greater (old 0) (number 5)) (signals ∷ [])
+      ∷ insert 0 (numbers (4 ∷ []) ∷ numbers (6 ∷ []) ∷ []) ∷ delete_all 0 ∷ [])
+      ≡ Changed (deleted 0 1 (4 ∷ []) ∷ deleted 0 2 (6 ∷ []) ∷ []) ∷ Skipped 0 (without_old (4 ∷ []) False) ∷ Ran 0 (saw_old (6 ∷ [])) ∷ []
+  -- CREATE TABLE t (a INT); CREATE TRIGGER b BEFORE INSERT ON t WHEN (9223372036854775807 + 1 > 5) SIGNAL 'stop'; INSERT INTO t
+  -- VALUES (4); a condition that is at fault is neither
+  pub condition_at_fault : told (
+      create_table (integer_column ∷ []) []
+      ∷ create_trigger 0 0 Before event.Insert Statement (Compare Greater (plus (number 9223372036854775807) (number 1)) (number 5)) (signals ∷ [])
+      ∷ insert_value 0 (number 4) ∷ [])
+      ≡ []
   -- CREATE TABLE t (a INT); CREATE TRIGGER b BEFORE INSERT ON t REFERENCING NEW AS n FOR EACH ROW SET n.a
   -- = 0; INSERT INTO t VALUES (4), (6); of a budget of two the statement takes one, so that the wave isn't
   -- entered, and its triggers don't run
@@ -306,13 +359,46 @@ pub record WorkedAccounts : Type 0 where
       ≡ Changed (deleted 0 1 (1 ∷ []) ∷ []) ∷ Acted (acts_on 1 Cascade 1 2 ∷ []) ∷ Changed (deleted 1 2 (1 ∷ []) ∷ [])
       ∷ Ran 0 (saw_old (1 ∷ [])) ∷ []
   -- CREATE TABLE p (k INT PRIMARY KEY); CREATE TABLE c (x INT REFERENCES p ON UPDATE CASCADE REFERENCES p ON UPDATE SET
-  -- NULL); INSERT INTO p VALUES (1); INSERT INTO c VALUES (1); UPDATE p SET k = 5; the two disagree, so that neither acts
+  -- NULL); INSERT INTO p VALUES (1); INSERT INTO c VALUES (1); UPDATE p SET k = 5; the two disagree, so that neither acts; the
+  -- earlier sets x to 5, and the later sets it to null
   pub two_keys_disagree : told (
       create_table (integer_column ∷ []) (not_deferrable 0 (rule.PrimaryKey (0 ∷ [])) ∷ [])
       ∷ create_table (integer_column ∷ [])
       (not_deferrable 1 (references_rule 0 0 0 NoAction Cascade) ∷ not_deferrable 1 (references_rule 0 0 0 NoAction SetNull) ∷ [])
       ∷ insert_value 0 (number 1) ∷ insert_value 1 (number 1) ∷ update_all 0 0 (number 5) ∷ [])
-      ≡ Changed (updated 0 1 (1 ∷ []) (5 ∷ []) ∷ []) ∷ Faulted (fault 2 2) (stored 1 2 (1 ∷ []) ∷ []) ∷ []
+      ≡ Changed (updated 0 1 (1 ∷ []) (5 ∷ []) ∷ [])
+      ∷ Disagreed (fault 2 2) (stored 1 2 (1 ∷ []) ∷ []) (record { earlier = 1; column = 0; earlier_value = int 5; value = Null })
+      ∷ []
+  -- The same with a key of k and m, and FOREIGN KEY (x, y) REFERENCES p ON UPDATE CASCADE, FOREIGN KEY (z, x) REFERENCES p ON UPDATE
+  -- CASCADE, FOREIGN KEY (y, x) REFERENCES p ON UPDATE SET NULL; UPDATE p SET k = 5, m = 6; by the first the row would be (5, 6, 1),
+  -- by the second (6, 1, 5): they disagree about x; that the third disagrees with both isn't told
+  pub second_column_of_the_later_key : told (
+      both_columns_referenced
+      ((0 ∷ 1 ∷ []), Cascade) ((2 ∷ 0 ∷ []), Cascade) ((1 ∷ 0 ∷ []), SetNull))
+      ≡ Changed (updated 0 1 (1 ∷ 1 ∷ []) (5 ∷ 6 ∷ []) ∷ [])
+      ∷ Disagreed (fault 2 2) (stored 1 2 (1 ∷ 1 ∷ 1 ∷ []) ∷ [])
+      (record { earlier = 1; column = 0; earlier_value = int 5; value = int 6 })
+      ∷ []
+  -- and FOREIGN KEY (x, y) REFERENCES p ON UPDATE CASCADE, FOREIGN KEY (x, z) REFERENCES p ON UPDATE CASCADE, FOREIGN KEY (z, y)
+  -- REFERENCES p ON UPDATE SET NULL; the third disagrees with the first about y, and with the second about z; the first earlier one
+  -- comes before the first column
+  pub first_of_two_earlier_keys : told (
+      both_columns_referenced
+      ((0 ∷ 1 ∷ []), Cascade) ((0 ∷ 2 ∷ []), Cascade) ((2 ∷ 1 ∷ []), SetNull))
+      ≡ Changed (updated 0 1 (1 ∷ 1 ∷ []) (5 ∷ 6 ∷ []) ∷ [])
+      ∷ Disagreed (fault 3 2) (stored 1 2 (1 ∷ 1 ∷ 1 ∷ []) ∷ [])
+      (record { earlier = 1; column = 1; earlier_value = int 6; value = Null })
+      ∷ []
+  -- CREATE TABLE t (k INT PRIMARY KEY, l INT UNIQUE, x INT REFERENCES t (k) ON UPDATE CASCADE REFERENCES t (l) ON UPDATE CASCADE);
+  -- INSERT INTO t VALUES (1, 1, 1); UPDATE t SET k = 2, l = 3; the row is told as it was before the wave
+  pub conflict_of_a_row_of_the_wave : told (
+      create_table (integer_column ∷ integer_column ∷ integer_column ∷ [])
+      (not_deferrable 0 (rule.PrimaryKey (0 ∷ [])) ∷ not_deferrable 0 (rule.Unique Distinct (1 ∷ []))
+      ∷ not_deferrable 0 (references_rule 2 0 0 NoAction Cascade) ∷ not_deferrable 0 (references_rule 2 0 1 NoAction Cascade) ∷ [])
+      ∷ insert_row 0 (numbers (1 ∷ 1 ∷ 1 ∷ [])) ∷ update 0 (setting 0 (number 2) ∷ setting 1 (number 3) ∷ []) Always ∷ [])
+      ≡ Changed (updated 0 1 (1 ∷ 1 ∷ 1 ∷ []) (2 ∷ 3 ∷ 1 ∷ []) ∷ [])
+      ∷ Disagreed (fault 3 1) (stored 0 1 (1 ∷ 1 ∷ 1 ∷ []) ∷ []) (record { earlier = 2; column = 2; earlier_value = int 2; value = int 3 })
+      ∷ []
   -- ---- rows of a violation
   -- CREATE TABLE t (a INT UNIQUE); INSERT INTO t VALUES (1), (1), (1); the first other row of the key
   pub first_other_row : told (

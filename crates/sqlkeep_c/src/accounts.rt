@@ -1,6 +1,6 @@
 //! The account of the last statement, entry by entry.
 ghost use Rattle.std.specs.Prelude.{◌≡◌, ◌≢◌, length, slice_get, IfSome};
-ghost use Rattle.iv_connection.specs.Accounts.{entry_shown, item_at, item_value, seen_value, trigger_at_entry};
+ghost use Rattle.iv_connection.specs.Accounts.{disagreement_at, disagreement_shown, entry_shown, item_at, item_value, seen_value, set_value, trigger_at_entry};
 ghost use Rattle.iv_connection.specs.Copying.{Copies};
 ghost use Rattle.iv_connection.specs.Cells.{text_of, cell_of};
 ghost use Rattle.iv_connection.specs.Statuses.{found};
@@ -8,8 +8,9 @@ ghost use Rattle.sqlkeep_c.specs.Statuses.{status_by, status_if_open};
 
 use crate::handle::{Handle, put, take};
 use iv_connection::{
-    CLOSED, Cell, NOTHING, OK, ShownEntry, ShownItem, copied_if_there, copy_text, entry_at,
-    entry_shown, entry_trigger_at, item_at, item_value, seen_value, write_value,
+    CLOSED, Cell, NOTHING, OK, ShownDisagreement, ShownEntry, ShownItem, copied_if_there,
+    copy_text, disagreement_at, disagreement_shown, entry_at, entry_shown, entry_trigger_at,
+    item_at, item_value, seen_value, set_value, write_value,
 };
 use std::alloc::Global;
 
@@ -58,7 +59,7 @@ pub extern "C" fn sqlkeep_entry(
     status
 }
 
-/// Copies the name of the trigger that runs by the entry at this place.
+/// Copies the name of the trigger that runs or is skipped by the entry at this place.
 #[unsafe(no_mangle)]
 pub extern "C" fn sqlkeep_entry_trigger(
     alloc: Global,
@@ -173,7 +174,7 @@ pub extern "C" fn sqlkeep_entry_text(
     status
 }
 
-/// A value of OLD or NEW of the trigger that runs by the entry at this place.
+/// A value of OLD or NEW of the trigger that runs or is skipped by the entry at this place.
 #[unsafe(no_mangle)]
 pub extern "C" fn sqlkeep_seen_value(
     alloc: Global,
@@ -226,6 +227,61 @@ pub extern "C" fn sqlkeep_seen_text(
         buffer,
         count,
     );
+    put(handle, connection);
+    status
+}
+
+/// How two foreign keys disagree by the entry at this place.
+#[unsafe(no_mangle)]
+pub extern "C" fn sqlkeep_disagreement(
+    alloc: Global,
+    handle: &mut Handle,
+    at: usize,
+    shown: &mut ShownDisagreement,
+) -> u32
+    ensures disagreement { IfSome handle.old.kept.behind (λ old. IfSome (disagreement_at old.session.account.entries at) (λ how.
+        shown.new ≡ disagreement_shown how)) }
+    ensures kept { handle.new.kept.behind ≡ handle.old.kept.behind }
+    ensures others { result ≢ OK → shown.new ≡ shown.old }
+    ensures status { result
+        ≡ status_by (λ old. found (disagreement_at old.session.account.entries at)) handle.old.kept.behind }
+{
+    let Some(connection) = take(handle, alloc) else {
+        return CLOSED;
+    };
+    let status = match disagreement_at(&connection, at) {
+        Some(how) => {
+            *shown = disagreement_shown(how);
+            OK
+        }
+        None => NOTHING,
+    };
+    put(handle, connection);
+    status
+}
+
+/// Copies bytes of a text to which one of two foreign keys that disagree sets the column, from this byte on.
+#[unsafe(no_mangle)]
+pub extern "C" fn sqlkeep_disagreement_text(
+    alloc: Global,
+    handle: &mut Handle,
+    at: usize,
+    side: u32,
+    from: usize,
+    buffer: &mut [u8],
+    count: &mut usize,
+) -> u32
+    ensures bytes { IfSome handle.old.kept.behind (λ old. IfSome (set_value old.session.account.entries at side) (λ it.
+        Copies from (text_of it) buffer.old buffer.new count.new)) }
+    ensures kept { handle.new.kept.behind ≡ handle.old.kept.behind }
+    ensures others { result ≢ OK → (buffer.new ≡ buffer.old) × (count.new ≡ count.old) }
+    ensures status { result
+        ≡ status_by (λ old. found (set_value old.session.account.entries at side)) handle.old.kept.behind }
+{
+    let Some(connection) = take(handle, alloc) else {
+        return CLOSED;
+    };
+    let status = copy_text(set_value(&connection, at, side), from, buffer, count);
     put(handle, connection);
     status
 }

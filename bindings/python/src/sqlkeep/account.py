@@ -6,9 +6,9 @@ import re
 from dataclasses import dataclass, field
 from typing import Dict, Iterator, List, Optional, Tuple, Union
 
-from .values import Value, parse_values, write_values
+from .values import Value, parse_values, write_value, write_values
 
-__all__ = ["Account", "Action", "Change", "Event", "NameFault", "Nested", "Reason", "Trigger", "Violation", "parse_account"]
+__all__ = ["Account", "Action", "Change", "Event", "NameFault", "Nested", "Reason", "Skipped", "Trigger", "Violation", "parse_account"]
 
 Row = Tuple[Value, ...]
 
@@ -47,7 +47,7 @@ class Violation:
 
     `why` is one of `condition`, `null`, `same key`, `null in key`, `missing`, `some nulls`, `restrict` and `conflict`. `column` is
     that of NOT NULL; `other_row` and `other_values` are the row with the same key; `refers_to` and `key` are the table and the key
-    that a foreign key refers to.
+    that a foreign key refers to. Of a `conflict` the foreign key sets `column` to `value`, and `other`, an earlier one, to `other_value`.
     """
 
     constraint: str
@@ -60,6 +60,9 @@ class Violation:
     other_values: Optional[Row] = None
     refers_to: Optional[str] = None
     key: Optional[Row] = None
+    other: Optional[str] = None
+    other_value: Value = None
+    value: Value = None
 
     @property
     def reason(self) -> str:
@@ -68,10 +71,16 @@ class Violation:
 
     def _matter(self) -> str:
         if self.key is not None:
-            return f"refers to {self.refers_to} {write_values(self.key)}, {BY_REFERENCE[self.why]}"
+            return f"refers to {self.refers_to} {write_values(self.key)}, {BY_REFERENCE.get(self.why) or self._conflict()}"
         if self.other_values is not None:
             return f"has the key of row {self.other_row} {write_values(self.other_values)}"
         return {"condition": "makes its condition false", "null": f"has NULL in {self.column}"}.get(self.why) or BY_NULLS[self.why]
+
+    def _conflict(self) -> str:
+        if self.other is None:
+            return "and another foreign key sets a column otherwise"
+        set_to = [write_value(value) for value in (self.other_value, self.value)]
+        return f"and {self.other} sets {self.column} to {set_to[0]}, where {self.constraint} sets it to {set_to[1]}"
 
     def __str__(self) -> str:
         return f"{self.constraint}: {self.reason}"
@@ -101,10 +110,15 @@ class Reason:
 
 @dataclass(frozen=True)
 class Nested:
-    """The statement at this place of a trigger's body, with what happened in it."""
+    """The statement at this place of a trigger's body, with what happened in it. Of one that changed nothing nothing is told, as of one that
+    was refused at once: `changes_nothing` tells them apart."""
 
     place: int
     events: "Tuple[Event, ...]"
+    changes_nothing: bool = False
+
+    def __str__(self) -> str:
+        return f"statement {self.place}{' changes nothing' if self.changes_nothing else ''}"
 
 
 @dataclass(frozen=True)
@@ -123,9 +137,22 @@ class Trigger:
         return f"trigger {self.name}{''.join(rows)}"
 
 
-Event = Union[Change, Action, Trigger, Violation, NameFault, Reason]
+@dataclass(frozen=True)
+class Skipped:
+    """A trigger whose body didn't run, since its WHEN was `false` or `unknown`: the row before and after for one FOR EACH ROW."""
 
-BY_REFERENCE = {"missing": "which isn't there", "restrict": "which RESTRICT protects", "conflict": "and another foreign key sets a column otherwise"}
+    name: str
+    when: str
+    old: Optional[Row] = None
+    new: Optional[Row] = None
+
+    def __str__(self) -> str:
+        return f"{Trigger(self.name, self.old, self.new)} skipped: WHEN is {self.when}"
+
+
+Event = Union[Change, Action, Trigger, Skipped, Violation, NameFault, Reason]
+
+BY_REFERENCE = {"missing": "which isn't there", "restrict": "which RESTRICT protects"}
 BY_NULLS = {"null in key": "has a null in its key", "some nulls": "has some nulls in its key"}
 
 
@@ -198,7 +225,7 @@ def written(events: Tuple[Event, ...], indent: str) -> Iterator[str]:
 def written_trigger(trigger: Trigger, indent: str) -> Iterator[str]:
     yield from (f"{indent}  saw {change}" for change in trigger.saw)
     for statement in trigger.statements:
-        yield f"{indent}statement {statement.place}"
+        yield f"{indent}{statement}"
         yield from written(statement.events, indent + "  ")
 
 
@@ -208,11 +235,12 @@ def written_trigger(trigger: Trigger, indent: str) -> Iterator[str]:
 ROW = r"\(((?:[^()']|'[^']*')*)\)"
 CHANGE = re.compile(rf"(insert|delete) (\w+) row (\d+) {ROW}\n")
 UPDATE = re.compile(rf"update (\w+) row (\d+) {ROW} to {ROW}\n")
-TRIGGER = re.compile(rf"trigger (\w+)(?: OLD {ROW})?(?: NEW {ROW})?\n")
+TRIGGER = re.compile(rf"trigger (\w+)(?: OLD {ROW})?(?: NEW {ROW})?( skipped: WHEN is (false|unknown))?\n")
 ACTION = re.compile(r"(\w+) (CASCADE|SET NULL|SET DEFAULT) on (\w+) row (\d+)\n")
 VIOLATION = re.compile(rf"(\w+): (\w+) row (\d+) {ROW} ")
 NAME = re.compile(r"(table|column|row variable|trigger|constraint|REFERENCING name) (\w+(?:\.\w+)?) (isn't there|is there already|comes twice)\n")
-STATEMENT = re.compile(r"statement (\d+)\n")
+STATEMENT = re.compile(r"statement (\d+)( changes nothing)?\n")
+VALUE = r"NULL|-?\d+|'(?:[^']|'')*'"
 # A text in an expression may hold anything between its quotes.
 WRITTEN = r"(?:[^'\n]|'[^']*')+"
 TYPE = r"(?:an INTEGER|a VARCHAR\(\d+\))"
@@ -239,6 +267,8 @@ MATTERS = [
     ("missing", re.compile(rf"refers to (?P<refers_to>\w+) {ROW}, which isn't there\n")),
     ("restrict", re.compile(rf"refers to (?P<refers_to>\w+) {ROW}, which RESTRICT protects\n")),
     ("conflict", re.compile(rf"refers to (?P<refers_to>\w+) {ROW}, and another foreign key sets a column otherwise\n")),
+    ("conflict", re.compile(
+        rf"refers to (?P<refers_to>\w+) {ROW}, and (?P<other>\w+) sets (?P<column>\w+) to (?P<other_value>{VALUE}), where \w+ sets it to (?P<value>{VALUE})\n")),
 ]
 
 
@@ -300,10 +330,12 @@ class Reader:
         found = self.take(ACTION, indent)
         return None if found is None else Action(found[1], found[2], found[3], int(found[4]))
 
-    def trigger(self, indent: str) -> Optional[Trigger]:
+    def trigger(self, indent: str) -> Union[Trigger, Skipped, None]:
         found = self.take(TRIGGER, indent)
         if found is None:
             return None
+        if found[4] is not None:
+            return Skipped(found[1], found[5], row_of(found[2]), row_of(found[3]))
         saw = tuple(self.saw(indent + "  saw "))
         return Trigger(found[1], row_of(found[2]), row_of(found[3]), saw, tuple(self.statements(indent)))
 
@@ -316,7 +348,7 @@ class Reader:
     def statements(self, indent: str) -> Iterator[Nested]:
         found = self.take(STATEMENT, indent)
         while found is not None:
-            yield Nested(int(found[1]), self.events(indent + "  "))
+            yield Nested(int(found[1]), self.events(indent + "  "), found[2] is not None)
             found = self.take(STATEMENT, indent)
 
     def violation(self, indent: str) -> Optional[Violation]:
@@ -340,9 +372,11 @@ class Reader:
 
 def violation_of(head: "re.Match[str]", why: str, found: "re.Match[str]") -> Violation:
     told = found.groupdict()
-    values = parse_values(found.groups()[-1]) if why in ("same key", "missing", "restrict", "conflict") else None
+    values = parse_values(found[2]) if why in ("same key", "missing", "restrict", "conflict") else None
+    other_value, value = (parse_values(told[name])[0] if name in told else None for name in ("other_value", "value"))
     return Violation(
         constraint=head[1], table=head[2], row=int(head[3]), values=parse_values(head[4]), why=why, column=told.get("column"),
         other_row=int(told["other_row"]) if "other_row" in told else None, other_values=values if why == "same key" else None,
         refers_to=told.get("refers_to"), key=values if why != "same key" else None,
+        other=told.get("other"), other_value=other_value, value=value,
     )

@@ -3,13 +3,13 @@
 `parse_transcript` reads them, with accounts where they are there, and `str()` of what it gives writes them again, byte for byte.
 """
 import re
-from dataclasses import dataclass
+from dataclasses import dataclass, replace
 from typing import List, Optional, Tuple
 
-from .account import Account, Reader
+from .account import Account, Reader, Violation
 from .values import Value, parse_values, write_value
 
-__all__ = ["Answer", "Fault", "Refusal", "Transcript", "parse_refusal", "parse_transcript"]
+__all__ = ["Answer", "Fault", "Refusal", "Settled", "Transcript", "parse_refusal", "parse_transcript"]
 
 
 @dataclass(frozen=True)
@@ -35,18 +35,33 @@ class Refusal:
 
 
 @dataclass(frozen=True)
+class Settled:
+    """A violation of a deferred constraint that isn't pending any more: the constraint, its table, and the row's number."""
+
+    constraint: str
+    table: str
+    row: int
+
+    def __str__(self) -> str:
+        return f"{self.constraint}: {self.table} row {self.row}"
+
+
+@dataclass(frozen=True)
 class Answer:
     """What a statement answered: its number; `count` for one that changed rows; `rows` for a query; `refusal` for one that was
-    refused; and its account."""
+    refused. With accounts: its account; `columns`, what a query gives; and which violations of deferred constraints `came` and `went`."""
 
     number: int
     count: Optional[int] = None
     rows: Optional[Tuple[Tuple[Value, ...], ...]] = None
     refusal: Optional[Refusal] = None
     account: Account = Account()
+    columns: Tuple[str, ...] = ()
+    came: Tuple[Violation, ...] = ()
+    went: Tuple[Settled, ...] = ()
 
     def __str__(self) -> str:
-        return f"{self.number} {self._outcome()}\n{self._rows()}{self.account}"
+        return f"{self.number} {self._outcome()}\n{self._columns()}{self._rows()}{self.account}{self._pending()}"
 
     def _outcome(self) -> str:
         if self.refusal is not None:
@@ -54,6 +69,12 @@ class Answer:
         if self.rows is not None:
             return f"rows {len(self.rows)}"
         return "ok" if self.count is None else f"ok {self.count}"
+
+    def _columns(self) -> str:
+        return f"  columns {', '.join(self.columns)}\n" if self.columns else ""
+
+    def _pending(self) -> str:
+        return "".join(f"{NOW}{violation}\n" for violation in self.came) + "".join(f"{NO_LONGER}{settled}\n" for settled in self.went)
 
     def _rows(self) -> str:
         return "".join(f"| {', '.join(write_value(value) for value in row)}\n" for row in self.rows or ())
@@ -94,6 +115,11 @@ VALUE = r"(?:NULL|-?\d+|'(?:[^']|'')*')"
 ACCEPTED = re.compile(r"(\d+) ok(?: (\d+))?\n")
 ROWS = re.compile(r"(\d+) rows (\d+)\n")
 ROW = re.compile(rf"\| ({VALUE}(?:, {VALUE})*)\n")
+# A column by its name, or an expression, where a text may hold anything between its quotes.
+COLUMN = r"(?:[^,'\n]|'[^']*')+"
+COLUMNS = re.compile(rf"  columns ({COLUMN}(?:, {COLUMN})*)\n")
+NOW, NO_LONGER = "  now pending ", "  no longer pending "
+SETTLED = re.compile(r"(\w+): (\w+) row (\d+)\n")
 REFUSED = re.compile(r"(\d+) refused (\d+) (\w+)(?: (?!row \d|in \w)(\w+))?(?: row (\d+))?(?: ('(?:[^']|'')*'))?(?: in (\w+))?\n")
 FAULT = re.compile(r"(\d+) fault (\d+)\n(?:  line (\d+), column (\d+)(?:: ([^\n]*))?\n((?:    [^\n]*\n     *\^\n)?))?")
 END = re.compile(r"end rolled back\n")
@@ -117,16 +143,33 @@ def refusal_of(found: "re.Match[str]") -> Refusal:
     return Refusal(cause, found[3], None if of_trigger else found[4], None if found[5] is None else int(found[5]), found[4] if of_trigger else None, signal, found[7])
 
 
-def answer_at(reader: Reader) -> Optional[Answer]:
-    """The answer that the reader has come to; None where there is none."""
+def columns_of(reader: Reader) -> Tuple[str, ...]:
+    """The columns in the line that the reader has come to; none where there is no such line."""
+    found = reader.take(COLUMNS)
+    return () if found is None else tuple(column.strip() for column in re.findall(COLUMN, found[1]))
+
+
+def outcome_at(reader: Reader) -> Optional[Answer]:
+    """The outcome that the reader has come to, without what is told of it; None where there is none."""
     found = reader.take(ACCEPTED)
     if found is not None:
-        return Answer(int(found[1]), None if found[2] is None else int(found[2]), account=reader.account())
+        return Answer(int(found[1]), None if found[2] is None else int(found[2]))
     found = reader.take(ROWS)
     if found is not None:
-        return Answer(int(found[1]), rows=rows_of(reader, int(found[2])), account=reader.account())
+        return Answer(int(found[1]), columns=columns_of(reader), rows=rows_of(reader, int(found[2])))
     found = reader.take(REFUSED)
-    return None if found is None else Answer(int(found[1]), refusal=refusal_of(found), account=reader.account())
+    return None if found is None else Answer(int(found[1]), refusal=refusal_of(found))
+
+
+def answer_at(reader: Reader) -> Optional[Answer]:
+    """The answer that the reader has come to; None where there is none."""
+    outcome = outcome_at(reader)
+    if outcome is None:
+        return None
+    account = reader.account()
+    came = tuple(iter(lambda: reader.violation(NOW), None))
+    settled = iter(lambda: reader.take(SETTLED, NO_LONGER), None)
+    return replace(outcome, account=account, came=came, went=tuple(Settled(found[1], found[2], int(found[3])) for found in settled))
 
 
 def parse_refusal(lines: str) -> Tuple[Refusal, Account]:

@@ -13,7 +13,7 @@ loop-entry-preserved g c =
     let others = c.in-Some.others.now in
     let e : c.loop-entry.rest.now ≡ entry ∷ others = search rules in
     record {
-      wrote = wrote_step (account_text s outcome c.args.entries.now) (entry_text s outcome depth entry)
+      wrote = wrote_step (account_text s outcome c.args.entries.now) (entry_text s outcome depth entry others)
           (entries_text s outcome c.depth_after-depth.result others) (entries_text s outcome depth c.loop-entry.rest.now)
           (g.W.Sink.state c.args.sink.now) (g.W.Sink.state c.loop-entry.sink) (g.W.Sink.state c.write_entry.new.sink)
           c.loop-entry.invariant.wrote

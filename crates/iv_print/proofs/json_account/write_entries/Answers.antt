@@ -16,7 +16,7 @@ loop-entry-preserved g c =
     let others = c.in-Some.others.now in
     let e : c.loop-entry.rest.now ≡ entry ∷ others = search rules in
     record {
-      wrote = wrote_step (json_entries s outcome 0 true c.args.entries.now) (separator first entry ++ json_entry s outcome entry)
+      wrote = wrote_step (json_entries s outcome 0 true c.args.entries.now) (separator first entry ++ json_entry s outcome entry others)
           (json_entries s outcome c.depth_after-depth.result c.begins-first.result others) (json_entries s outcome depth first c.loop-entry.rest.now)
           (g.W.Sink.state c.args.sink.now) (g.W.Sink.state c.loop-entry.sink) (g.W.Sink.state c.write_separated.new.sink)
           c.loop-entry.invariant.wrote

@@ -1,0 +1,28 @@
+-- A condition takes effect, and is told, by its truth.
+use Rattle.std.proofs.Common.{◌≡◌, refl, Bool, List, Result, Ok, Err}
+use Rattle.iv_value.specs.declared.value.Truth.{Truth}
+use Rattle.iv_value.specs.Truths.{is_true}
+use Rattle.iv_expr.specs.declared.tree.Cond.{Cond}
+use Rattle.iv_expr.specs.declared.tree.ExprFault.{ExprFault}
+use Rattle.iv_expr.specs.Evaluation.{and_then, truth}
+use Rattle.iv_expr.specs.Scopes.{Scope}
+use Rattle.iv_catalogue.specs.declared.cause.Cause.{Cause}
+use Rattle.iv_catalogue.specs.Refusals.{cause_of}
+use Rattle.iv_machine.specs.Proposals.{holds, with_cause}
+use Rattle.iv_account.specs.declared.entry.Entry.{Entry}
+use Rattle.iv_account.specs.Accounts.{unless_refused}
+
+pub effect_of_truth : (s : Scope) (c : Cond) → holds s c ≡ and_then (with_cause (truth s c)) (λ t. Ok (is_true t))
+effect_of_truth s c = by (truth s c)
+  where
+    by : (r : Result Truth ExprFault)
+        → ◌≡◌ {A = Result Bool Cause} (elim r [ Ok t ↦ Ok (is_true t) | Err fault ↦ Err (cause_of fault) ]) (and_then (with_cause r) (λ t. Ok (is_true t)))
+    by (Ok t) = refl
+    by (Err fault) = refl
+
+pub told_of_truth : (s : Scope) (c : Cond) (tell : Truth → List Entry) → unless_refused (truth s c) tell ≡ unless_refused (with_cause (truth s c)) tell
+told_of_truth s c tell = by (truth s c)
+  where
+    by : (r : Result Truth ExprFault) → unless_refused r tell ≡ unless_refused (with_cause r) tell
+    by (Ok t) = refl
+    by (Err fault) = refl

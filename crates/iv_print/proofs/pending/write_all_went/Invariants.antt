@@ -1,0 +1,12 @@
+use Rattle.std.proofs.Common.{length}
+use Rattle.std.specs.List.{flat_map}
+use Rattle.iv_print.specs.PendingLines.{went_line}
+use Rattle.iv_print.proofs.WriteLemmas.{Wrote}
+use Rattle.iv_print.proofs.pending.write_all_went.Given as goal
+
+abbrev pub invariant-loop-fault : goal.invariant-loop-fault
+invariant-loop-fault g l =
+    Wrote (flat_map (went_line l.fn.catalogue) l.fn.faults) (flat_map (went_line l.fn.catalogue) l.rest) (g.W.Sink.state l.initial.sink) (g.W.Sink.state l.sink)
+
+abbrev pub decreases-loop-fault : goal.decreases-loop-fault
+decreases-loop-fault g l = length l.rest

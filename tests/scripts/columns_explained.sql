@@ -1,0 +1,16 @@
+CREATE TABLE t (a INT, b VARCHAR(20), c INT);
+CREATE TABLE u (a INT);
+INSERT INTO t VALUES (1, 'it''s', 9223372036854775807);
+SELECT * FROM t;
+SELECT * FROM t AS x WHERE x.a = 7;
+SELECT b, a, b FROM t;
+SELECT x.a, ( x . a ), -x.a, + a, -(-a) FROM t x;
+SELECT a+1, a-1, a*2, a + 1 * ( a - 2 ), NULL, 'it''s', '', 7 FROM t;
+SELECT COUNT ( * ) FROM u WHERE a = 1;
+SELECT c + 1 FROM t;
+SELECT c + 1 FROM u;
+SELECT d FROM t;
+SELECT * FROM u;
+SAVEPOINT s;
+SELECT '"', 'a\b' FROM t;
+COMMIT;
