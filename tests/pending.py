@@ -3,7 +3,7 @@ import re
 
 CAME = re.compile(rb'^  now pending (\w+): \w+ row (\d+) ', re.M)
 WENT = re.compile(rb'^  no longer pending (\w+): \w+ row (\d+)$', re.M)
-LINES = re.compile(rb"^  (?:now pending \w+: \w+ row \d+ (?:[^'\n]|n't|'[^']*')*|no longer pending \w+: \w+ row \d+)\n", re.M)
+LINES = re.compile(rb"^  (?:now pending \w+: \w+ row \d+ (?:n't|[^'\n]|'[^']*')*|no longer pending \w+: \w+ row \d+)\n", re.M)
 # The end of a transaction, as a statement is written.
 END = re.compile(rb'(?:\s|--[^\n]*\n)*(?:COMMIT|ROLLBACK)(?:\s+WORK)?\s*;?\s*', re.I)
 

@@ -8,7 +8,7 @@ SELECT x.a, ( x . a ), -x.a, + a, -(-a) FROM t x;
 SELECT a+1, a-1, a*2, a + 1 * ( a - 2 ), NULL, 'it''s', '', 7 FROM t;
 SELECT COUNT ( * ) FROM u WHERE a = 1;
 SELECT c + 1 FROM t;
-SELECT c + 1 FROM u;
+SELECT a + 1 FROM u;
 SELECT d FROM t;
 SELECT * FROM u;
 SAVEPOINT s;

@@ -166,6 +166,18 @@ class Transcripts(unittest.TestCase):
         self.assertEqual((found.fault.number, found.fault.place, found.fault.line, found.fault.column, found.fault.words, found.rolled_back), (6, 219, 6, 1, "SELEKT 'x", True))
         self.assertEqual(str(found), text)
 
+    def test_columns_and_what_is_pending(self):
+        text = (
+            "1 rows 1\n  columns A, B.C * 2, 'x, ''y'\n| 1, 2, 'x, ''y'\n"
+            "2 ok 1\n  insert T row 2 (5)\n  now pending F: T row 2 (5) refers to P (5), which isn't there\n"
+            "  now pending U: T row 3 ('\n') has the key of row 4 ('\n')\n  no longer pending U: T row 1\n")
+        query, insertion = sqlkeep.parse_transcript(text).answers
+        self.assertEqual(query.columns, ("A", "B.C * 2", "'x, ''y'"))
+        self.assertEqual([(each.constraint, each.row, each.why) for each in insertion.came], [("F", 2, "missing"), ("U", 3, "same key")])
+        self.assertEqual(insertion.went, (sqlkeep.Settled("U", "T", 1),))
+        self.assertEqual(insertion.account.events, (Change("insert", "T", 2, None, (5,)),))
+        self.assertEqual(str(sqlkeep.parse_transcript(text)), text)
+
     def test_refusals(self):
         for line, wanted in [
             ("refused 8 NotDeferrable C", Refusal(8, "NotDeferrable", constraint="C")),

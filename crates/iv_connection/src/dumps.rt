@@ -1,5 +1,6 @@
 //! The database as scripts.
 ghost use Rattle.std.specs.Prelude.{◌≡◌, ◌≢◌, option_copied, slice_get};
+ghost use Rattle.iv_dump.specs.Dumps.{AreDump};
 ghost use Rattle.iv_dump.specs.Scripts.{AreShort};
 ghost use Rattle.iv_connection.specs.Dumps.{IsDumpStatus, scripts_of};
 
@@ -12,6 +13,7 @@ use std::alloc::Global;
 /// The state stays; the account of the last statement is gone.
 pub fn keep_dump(alloc: Global, connection: &mut Connection) -> u32
     ensures short { result ≡ OK → AreShort (scripts_of connection.new) }
+    ensures statements { result ≡ OK → AreDump connection.old.session.state (scripts_of connection.new) }
     ensures state { connection.new.session.state ≡ connection.old.session.state }
     ensures rest { connection.new ≡ record connection.old {
       session = connection.new.session;

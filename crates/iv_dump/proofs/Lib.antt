@@ -1,3 +1,7 @@
+pub mod Adding
+pub mod Keeping
+pub mod LawsOfDumps
+pub mod Made
 pub mod Pushed
-pub mod Queries
+pub mod Selected
 pub mod WrittenChecks

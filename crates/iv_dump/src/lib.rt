@@ -2,8 +2,11 @@
 #![tactic(auto)]
 
 mod batches;
+mod constraints;
 mod dumping;
 pub mod laws;
+mod parts;
+mod queries;
 mod refusal;
 mod scripts;
 

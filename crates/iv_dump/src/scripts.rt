@@ -1,5 +1,6 @@
 //! Texts in scripts of limited length.
-ghost use Rattle.std.specs.Prelude.{◌≡◌, ◌++◌, [], IfOk, OnOk, flat_map, map, string_bytes};
+ghost use Rattle.std.specs.Prelude.{◌≡◌, ◌++◌, ◌∷◌, [], IfOk, OnOk, map, string_bytes};
+ghost use Rattle.iv_dump.specs.Making.{IsPushed};
 ghost use Rattle.iv_dump.specs.Scripts.{AreShort};
 
 use crate::refusal::DumpRefusal;
@@ -10,7 +11,7 @@ use std::mem::replace;
 /// The most bytes of a script, 2^20.
 pub const LONGEST_SCRIPT: usize = 1_048_576;
 
-/// Scripts, none of them too long, of which texts are added to the last. Contracts see them as one text.
+/// Scripts, none of them too long, of which texts are added to the last. Contracts see those that are full, and the last.
 pub struct Scripts {
     alloc: Global,
     done: Vec<String>,
@@ -30,12 +31,12 @@ impl Drop for Scripts {
 }
 
 impl Model for Scripts {
-    ghost use Rattle.std.specs.Prelude.{◌≤◌, ◌++◌, List, ℕ, flat_map, length, map, string_bytes};
+    ghost use Rattle.std.specs.Prelude.{◌≤◌, List, ℕ, length, map, string_bytes};
     ghost use Rattle.iv_dump.specs.Scripts.{AreShort, LONGEST_SCRIPT};
 
-    ghost Value = { List ℕ };
+    ghost Value = { List (List ℕ) × List ℕ };
 
-    ghost view = { λ s. flat_map string_bytes s.done.items ++ string_bytes s.last };
+    ghost view = { λ s. (map string_bytes s.done.items, string_bytes s.last) };
 
     ghost invariant = { λ s. AreShort (map string_bytes s.done.items) × (length (string_bytes s.last) ≤ LONGEST_SCRIPT) };
 }
@@ -43,7 +44,7 @@ impl Model for Scripts {
 impl Scripts {
     /// No script.
     pub fn new(alloc: Global) -> Scripts
-        ensures { result ≡ [] }
+        ensures { result ≡ ([], []) }
     {
         Scripts {
             alloc,
@@ -55,7 +56,7 @@ impl Scripts {
     /// Adds a text that stays whole: to the last script, or to a new one if that would become too long.
     #[tactic(auto, using(crate::proofs::Pushed::short_pushed, crate::proofs::Pushed::text_pushed))]
     pub fn push(&mut self, text: &str) -> Result<(), DumpRefusal>
-        ensures { OnOk result (self.new ≡ self.old ++ text.now) }
+        ensures { OnOk result (IsPushed text.now self.old self.new) }
     {
         if text.len() > LONGEST_SCRIPT {
             return Err(DumpRefusal::TooLong);
@@ -72,7 +73,7 @@ impl Scripts {
     #[tactic(auto, using(crate::proofs::Pushed::short_pushed, crate::proofs::Pushed::text_pushed))]
     pub fn into_vec(self) -> Result<Vec<String>, DumpRefusal>
         ensures short { IfOk result (λ scripts. AreShort (map string_bytes scripts.items)) }
-        ensures text { IfOk result (λ scripts. flat_map string_bytes scripts.items ≡ self) }
+        ensures texts { IfOk result (λ scripts. map string_bytes scripts.items ≡ self.0 ++ self.1 ∷ []) }
     {
         let Scripts {
             alloc: _,

@@ -4,6 +4,7 @@ use Rattle.std.specs.Io.KnownBytes.{Appends}
 use Rattle.iv_syntax.specs.declared.statement.Statement.{Statement}
 use Rattle.iv_machine.specs.Bounds.{Bounds}
 use Rattle.iv_machine.specs.Machine.{State, empty_state}
+use Rattle.iv_dump.specs.Dumps.{AreDump}
 use Rattle.iv_dump.specs.Scripts.{AreShort}
 use Rattle.iv_dump.specs.declared.refusal.DumpRefusal.{DumpRefusal}
 use Rattle.iv_dump.specs.declared.refusal.DumpRefusal.TheVariants as refusal
@@ -29,11 +30,12 @@ joined [] = []
 joined (script ∷ scripts) = script ++ joined scripts
 
 -- The scripts of a dump of this state, which is outside a transaction, were appended one after another; none is longer than a script
--- may be.
+-- may be, and together they are statements that make what there is.
 pub record WritesDump (state : State) (before after : SinkState) : Type 0 where
   pub outside : is_some state.start ≡ false
   pub scripts : List (List ℕ)
   pub short : AreShort scripts
+  pub dump : AreDump state scripts
   pub appended : Appends before.contents after.contents (joined scripts)
 
 -- The statements ran from this state on, an open transaction was rolled back, and a dump of that was written.

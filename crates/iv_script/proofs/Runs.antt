@@ -171,28 +171,28 @@ did_refused : (sure_back asked : Bool) (old new : State) (listed : List Fault) (
     → Tells asked old st (Err (record { cause = c; trigger = t })) account
     → AreNews (asked && is_open new) (is_memory {A = Answer} (Err (record { cause = c; trigger = t })) || account.untold) listed new n
     → Did sure_back asked old new listed st (Err (record { cause = c; trigger = t })) account n
-did_refused sure_back asked old new listed st cause.OutOfMemory t account n e sure told k = did_denied sure_back asked old new listed st t account n e sure told k
-did_refused sure_back asked old new listed st cause.Unknown t account n e sure told k = did_plain sure_back asked old new listed st (Err (record { cause = cause.Unknown; trigger = t })) account n refl e told k
-did_refused sure_back asked old new listed st cause.Duplicate t account n e sure told k = did_plain sure_back asked old new listed st (Err (record { cause = cause.Duplicate; trigger = t })) account n refl e told k
-did_refused sure_back asked old new listed st cause.SchemaFault t account n e sure told k = did_plain sure_back asked old new listed st (Err (record { cause = cause.SchemaFault; trigger = t })) account n refl e told k
-did_refused sure_back asked old new listed st cause.InTransaction t account n e sure told k = did_plain sure_back asked old new listed st (Err (record { cause = cause.InTransaction; trigger = t })) account n refl e told k
-did_refused sure_back asked old new listed st cause.NoTransaction t account n e sure told k = did_plain sure_back asked old new listed st (Err (record { cause = cause.NoTransaction; trigger = t })) account n refl e told k
-did_refused sure_back asked old new listed st cause.ActiveTransaction t account n e sure told k = did_plain sure_back asked old new listed st (Err (record { cause = cause.ActiveTransaction; trigger = t })) account n refl e told k
-did_refused sure_back asked old new listed st cause.UnknownSavepoint t account n e sure told k = did_plain sure_back asked old new listed st (Err (record { cause = cause.UnknownSavepoint; trigger = t })) account n refl e told k
-did_refused sure_back asked old new listed st (cause.NotDeferrable k) t account n e sure told k = did_plain sure_back asked old new listed st (Err (record { cause = cause.NotDeferrable k; trigger = t })) account n refl e told k
-did_refused sure_back asked old new listed st cause.WrongShape t account n e sure told k = did_plain sure_back asked old new listed st (Err (record { cause = cause.WrongShape; trigger = t })) account n refl e told k
-did_refused sure_back asked old new listed st cause.NumberOutOfRange t account n e sure told k = did_plain sure_back asked old new listed st (Err (record { cause = cause.NumberOutOfRange; trigger = t })) account n refl e told k
-did_refused sure_back asked old new listed st cause.TextTooLong t account n e sure told k = did_plain sure_back asked old new listed st (Err (record { cause = cause.TextTooLong; trigger = t })) account n refl e told k
-did_refused sure_back asked old new listed st (cause.Restrict f) t account n e sure told k = did_plain sure_back asked old new listed st (Err (record { cause = cause.Restrict f; trigger = t })) account n refl e told k
-did_refused sure_back asked old new listed st (cause.Violation f) t account n e sure told k = did_plain sure_back asked old new listed st (Err (record { cause = cause.Violation f; trigger = t })) account n refl e told k
-did_refused sure_back asked old new listed st (cause.ActionConflict f) t account n e sure told k = did_plain sure_back asked old new listed st (Err (record { cause = cause.ActionConflict f; trigger = t })) account n refl e told k
-did_refused sure_back asked old new listed st (cause.Signal k p) t account n e sure told k = did_plain sure_back asked old new listed st (Err (record { cause = cause.Signal k p; trigger = t })) account n refl e told k
-did_refused sure_back asked old new listed st (cause.DepthLimit k) t account n e sure told k = did_plain sure_back asked old new listed st (Err (record { cause = cause.DepthLimit k; trigger = t })) account n refl e told k
-did_refused sure_back asked old new listed st cause.TooManyChanges t account n e sure told k = did_plain sure_back asked old new listed st (Err (record { cause = cause.TooManyChanges; trigger = t })) account n refl e told k
-did_refused sure_back asked old new listed st cause.TransactionTooLarge t account n e sure told k = did_plain sure_back asked old new listed st (Err (record { cause = cause.TransactionTooLarge; trigger = t })) account n refl e told k
-did_refused sure_back asked old new listed st (cause.CommitRefused f) t account n e sure told k = did_plain sure_back asked old new listed st (Err (record { cause = cause.CommitRefused f; trigger = t })) account n refl e told k
-did_refused sure_back asked old new listed st (cause.AddRefused n) t account n e sure told k = did_plain sure_back asked old new listed st (Err (record { cause = cause.AddRefused n; trigger = t })) account n refl e told k
-did_refused sure_back asked old new listed st cause.Limit t account n e sure told k = did_plain sure_back asked old new listed st (Err (record { cause = cause.Limit; trigger = t })) account n refl e told k
+did_refused sure_back asked old new listed st cause.OutOfMemory t account n e sure told w = did_denied sure_back asked old new listed st t account n e sure told w
+did_refused sure_back asked old new listed st cause.Unknown t account n e sure told w = did_plain sure_back asked old new listed st (Err (record { cause = cause.Unknown; trigger = t })) account n refl e told w
+did_refused sure_back asked old new listed st cause.Duplicate t account n e sure told w = did_plain sure_back asked old new listed st (Err (record { cause = cause.Duplicate; trigger = t })) account n refl e told w
+did_refused sure_back asked old new listed st cause.SchemaFault t account n e sure told w = did_plain sure_back asked old new listed st (Err (record { cause = cause.SchemaFault; trigger = t })) account n refl e told w
+did_refused sure_back asked old new listed st cause.InTransaction t account n e sure told w = did_plain sure_back asked old new listed st (Err (record { cause = cause.InTransaction; trigger = t })) account n refl e told w
+did_refused sure_back asked old new listed st cause.NoTransaction t account n e sure told w = did_plain sure_back asked old new listed st (Err (record { cause = cause.NoTransaction; trigger = t })) account n refl e told w
+did_refused sure_back asked old new listed st cause.ActiveTransaction t account n e sure told w = did_plain sure_back asked old new listed st (Err (record { cause = cause.ActiveTransaction; trigger = t })) account n refl e told w
+did_refused sure_back asked old new listed st cause.UnknownSavepoint t account n e sure told w = did_plain sure_back asked old new listed st (Err (record { cause = cause.UnknownSavepoint; trigger = t })) account n refl e told w
+did_refused sure_back asked old new listed st (cause.NotDeferrable k) t account n e sure told w = did_plain sure_back asked old new listed st (Err (record { cause = cause.NotDeferrable k; trigger = t })) account n refl e told w
+did_refused sure_back asked old new listed st cause.WrongShape t account n e sure told w = did_plain sure_back asked old new listed st (Err (record { cause = cause.WrongShape; trigger = t })) account n refl e told w
+did_refused sure_back asked old new listed st cause.NumberOutOfRange t account n e sure told w = did_plain sure_back asked old new listed st (Err (record { cause = cause.NumberOutOfRange; trigger = t })) account n refl e told w
+did_refused sure_back asked old new listed st cause.TextTooLong t account n e sure told w = did_plain sure_back asked old new listed st (Err (record { cause = cause.TextTooLong; trigger = t })) account n refl e told w
+did_refused sure_back asked old new listed st (cause.Restrict f) t account n e sure told w = did_plain sure_back asked old new listed st (Err (record { cause = cause.Restrict f; trigger = t })) account n refl e told w
+did_refused sure_back asked old new listed st (cause.Violation f) t account n e sure told w = did_plain sure_back asked old new listed st (Err (record { cause = cause.Violation f; trigger = t })) account n refl e told w
+did_refused sure_back asked old new listed st (cause.ActionConflict f) t account n e sure told w = did_plain sure_back asked old new listed st (Err (record { cause = cause.ActionConflict f; trigger = t })) account n refl e told w
+did_refused sure_back asked old new listed st (cause.Signal k p) t account n e sure told w = did_plain sure_back asked old new listed st (Err (record { cause = cause.Signal k p; trigger = t })) account n refl e told w
+did_refused sure_back asked old new listed st (cause.DepthLimit k) t account n e sure told w = did_plain sure_back asked old new listed st (Err (record { cause = cause.DepthLimit k; trigger = t })) account n refl e told w
+did_refused sure_back asked old new listed st cause.TooManyChanges t account n e sure told w = did_plain sure_back asked old new listed st (Err (record { cause = cause.TooManyChanges; trigger = t })) account n refl e told w
+did_refused sure_back asked old new listed st cause.TransactionTooLarge t account n e sure told w = did_plain sure_back asked old new listed st (Err (record { cause = cause.TransactionTooLarge; trigger = t })) account n refl e told w
+did_refused sure_back asked old new listed st (cause.CommitRefused f) t account n e sure told w = did_plain sure_back asked old new listed st (Err (record { cause = cause.CommitRefused f; trigger = t })) account n refl e told w
+did_refused sure_back asked old new listed st (cause.AddRefused row) t account n e sure told w = did_plain sure_back asked old new listed st (Err (record { cause = cause.AddRefused row; trigger = t })) account n refl e told w
+did_refused sure_back asked old new listed st cause.Limit t account n e sure told w = did_plain sure_back asked old new listed st (Err (record { cause = cause.Limit; trigger = t })) account n refl e told w
 
 pub did : (sure_back asked : Bool) (old new : State) (listed : List Fault) (st : Statement) (r : Result Answer Refusal) (account : Account) (n : News) → Executes old st r new
     → (never_refused sure_back old st ≡ true → is_memory r ≡ false) → Tells asked old st r account

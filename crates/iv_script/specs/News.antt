@@ -1,5 +1,5 @@
 -- The news of what is pending, as the code holds it.
-use Rattle.std.specs.Prelude.{◌≡◌, ◌⊎◌, ◌&&◌, ◌×◌, Bool, true, false, List, []}
+use Rattle.std.specs.Prelude.{◌≡◌, ◌⊎◌, ◌&&◌, Bool, true, false, List, []}
 use Rattle.iv_catalogue.specs.declared.cause.Fault.{Fault}
 use Rattle.iv_machine.specs.Machine.{State}
 use Rattle.iv_script.specs.Transcript as spec

@@ -183,6 +183,7 @@ pub fn run_statements<S: Executor, W: Sink>(
 {
     let mut rest = statements;
     let mut number = 0u64;
+    let listed = Vec::new(telling.alloc);
     let mut point = Point {
         tally: Tally {
             accepted: 0,
@@ -190,7 +191,7 @@ pub fn run_statements<S: Executor, W: Sink>(
             memory_refused: 0,
             untold: 0,
         },
-        listed: Vec::new(telling.alloc),
+        listed,
     };
     while let Some((statement, others)) = rest.split_first() {
         number += 1;

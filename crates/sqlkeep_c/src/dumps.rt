@@ -1,5 +1,6 @@
 //! The database as scripts.
 ghost use Rattle.std.specs.Prelude.{◌≡◌, ◌≢◌, length, slice_get, IfSome};
+ghost use Rattle.iv_dump.specs.Dumps.{AreDump};
 ghost use Rattle.iv_dump.specs.Scripts.{AreShort};
 ghost use Rattle.iv_connection.specs.Copying.{Copies};
 ghost use Rattle.iv_connection.specs.Dumps.{scripts_of};
@@ -16,6 +17,8 @@ use std::alloc::Global;
 pub extern "C" fn sqlkeep_dump(alloc: Global, handle: &mut Handle, scripts: &mut usize) -> u32
     ensures dump { Called handle.old.kept.behind handle.new.kept.behind (λ old new. result ≡ OK
         → (scripts.new ≡ length new.dump.items) × AreShort (scripts_of new)) }
+    ensures statements { Called handle.old.kept.behind handle.new.kept.behind (λ old new. result ≡ OK
+        → AreDump old.session.state (scripts_of new)) }
     ensures state { Called handle.old.kept.behind handle.new.kept.behind (λ old new.
         new.session.state ≡ old.session.state) }
     ensures rest { Called handle.old.kept.behind handle.new.kept.behind (λ old new.

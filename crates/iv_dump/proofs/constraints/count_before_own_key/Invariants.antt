@@ -1,5 +1,5 @@
 use Rattle.std.proofs.Common.{◌≤◌}
-use Rattle.iv_dump.proofs.dumping.count_earlier.Given as goal
+use Rattle.iv_dump.proofs.constraints.count_before_own_key.Given as goal
 
 abbrev pub invariant-loop-constraint : goal.invariant-loop-constraint
 invariant-loop-constraint l = l.count ≤ l.constraint-index
