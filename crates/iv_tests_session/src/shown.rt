@@ -145,7 +145,8 @@ fn show_rows(rt: &impl Abort, entry: &Entry, shown: &mut String) {
     }
 }
 
-fn show_fault(rt: &impl Abort, before: &str, fault: &Fault, shown: &mut String) {
+// The place of the constraint and the number of the row that an entry is about.
+fn show_violated(rt: &impl Abort, before: &str, fault: &Fault, shown: &mut String) {
     show_number(rt, before, fault.constraint.place() as u64, " ", shown);
     show_number(rt, "", fault.row, "", shown)
 }
@@ -163,11 +164,11 @@ fn show_entry(rt: &impl Abort, entry: &Entry, shown: &mut String) {
         Entry::Began(place) => show_number(rt, "began ", u64::from(*place), "", shown),
         Entry::Ended => show(rt, "ended", shown),
         Entry::Faulted(fault, _) => {
-            show_fault(rt, "faulted ", fault, shown);
+            show_violated(rt, "faulted ", fault, shown);
             show_rows(rt, entry, shown)
         }
         Entry::Disagreed(fault, _, how) => {
-            show_fault(rt, "disagreed ", fault, shown);
+            show_violated(rt, "disagreed ", fault, shown);
             show_disagreement(rt, how, shown);
             show_rows(rt, entry, shown)
         }
