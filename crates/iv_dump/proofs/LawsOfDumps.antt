@@ -1,6 +1,6 @@
 -- What follows for every dump.
 use Rattle.std.proofs.Common.{◌≡◌, ℕ, ◌+◌, Bool, true, false, ◌&&◌, List, [], ◌∷◌, ◌++◌, ◌∙◌, Option, Some, None, refl, sym, ap, subst, map, take, drop, append-nil, append_assoc, take-append-drop}
-use Rattle.std.specs.Prelude.{flat_map, filter_map}
+use Rattle.std.specs.Prelude.{flat_map, filter_map, option_map}
 use Rattle.std.specs.List.{list_all}
 use Rattle.std.proofs.lemmas.Grind.{flat_map-append}
 use Rattle.std.proofs.lemmas.List.{map-append}
@@ -15,7 +15,7 @@ use Rattle.iv_syntax.specs.declared.table.TableRule.{TableRule}
 use Rattle.iv_syntax.specs.declared.trigger.TriggerDefinition.{TriggerDefinition}
 use Rattle.iv_catalogue.specs.declared.catalogue.Column.{Column}
 use Rattle.iv_resolution.specs.Constraints.{WrittenConstraint, is_deferrable, initial_mode, column_constraint, element_constraints, table_constraint, written_constraints}
-use Rattle.iv_restate.specs.Constraints.{column_constraint_of, columns_at, table_constraint_of, table_rule_of, time_of, with_rule}
+use Rattle.iv_restate.specs.Constraints.{column_constraint_of, columns_at, table_constraint_of, table_name_at, table_rule_of, time_of, with_rule}
 use Rattle.iv_restate.specs.Statements.{add_constraint, after_null, before_null, column_element, constraint_elements, count_before, count_up_to, create_table, elements_of, from_null, insert_rows, tuple_of, up_to_null}
 use Rattle.iv_restate.specs.TableLaws.{AreInOrder, AreOfTable, IsOfTable}
 use Rattle.iv_restate.specs.Triggers.{CreatesTrigger}
@@ -43,9 +43,18 @@ no_trigger_rows : (name : List ℕ) (batches : List Batch) → NoTrigger (flat_m
 no_trigger_rows name [] = tt {0}
 no_trigger_rows name (b ∷ batches) = (refl, (refl, no_trigger_rows name batches))
 
+added_some : (tables : List Table) (k : Constraint) (w : TableConstraint) → table_constraint_of tables k ≡ Some w
+    → part_statements tables (added k) ≡ statement.AlterTable (table_name_at tables k.table) w ∷ []
+added_some tables k w e =
+    ap (λ o. elim (option_map (statement.AlterTable (table_name_at tables k.table)) o) as (λ _. List Statement) [ Some s ↦ s ∷ [] | None ↦ [] ]) e
+
+added_none : (tables : List Table) (k : Constraint) → table_constraint_of tables k ≡ None → part_statements tables (added k) ≡ []
+added_none tables k e =
+    ap (λ o. elim (option_map (statement.AlterTable (table_name_at tables k.table)) o) as (λ _. List Statement) [ Some s ↦ s ∷ [] | None ↦ [] ]) e
+
 no_trigger_added : (tables : List Table) (k : Constraint) (o : Option TableConstraint) → table_constraint_of tables k ≡ o → NoTrigger (part_statements tables (added k))
-no_trigger_added tables k (Some w) e = rw e (refl, tt {0})
-no_trigger_added tables k None e = rw e (tt {0})
+no_trigger_added tables k (Some w) e = subst NoTrigger (sym (added_some tables k w e)) (refl, tt {0})
+no_trigger_added tables k None e = subst NoTrigger (sym (added_none tables k e)) (tt {0})
 
 no_trigger_part : (tables : List Table) (p : Part) → NoTrigger (part_statements tables p)
 no_trigger_part tables (created t constraints batches) = (refl, no_trigger_rows t.name batches)
@@ -120,21 +129,21 @@ triggers_last schema rows before after t d =
 abbrev Tuple : Type 0
 Tuple = List ℕ × List ValueOrDefault
 
-with_name : (name : List ℕ) (rows : List (List Value)) → map (λ (tuple : List ValueOrDefault). (name, tuple)) (map tuple_of rows) ≡ map (λ (row : List Value). (name, tuple_of row)) rows
+with_name : (name : List ℕ) (rows : List (List Value)) → map {B = Tuple} (λ (tuple : List ValueOrDefault). (name, tuple)) (map tuple_of rows) ≡ map {B = Tuple} (λ (row : List Value). (name, tuple_of row)) rows
 with_name name [] = refl
 with_name name (r ∷ rows) = ap (λ xs. (name, tuple_of r) ∷ xs) (with_name name rows)
 
 rows_inserted : (name : List ℕ) (batches : List Batch)
-    → flat_map inserted (flat_map (batch_statements name) batches) ≡ map (λ (row : List Value). (name, tuple_of row)) (flat_map batch_rows batches)
+    → flat_map inserted (flat_map (batch_statements name) batches) ≡ map {B = Tuple} (λ (row : List Value). (name, tuple_of row)) (flat_map batch_rows batches)
 rows_inserted name [] = refl
 rows_inserted name (b ∷ batches) =
     ap (λ (xs : List Tuple). xs ++ flat_map inserted (flat_map (batch_statements name) batches)) (with_name name (batch_rows b))
-    ∙ ap (λ (xs : List Tuple). map (λ (row : List Value). (name, tuple_of row)) (batch_rows b) ++ xs) (rows_inserted name batches)
-    ∙ sym (map-append (λ (row : List Value). (name, tuple_of row)) (batch_rows b) (flat_map batch_rows batches))
+    ∙ ap (λ (xs : List Tuple). map {B = Tuple} (λ (row : List Value). (name, tuple_of row)) (batch_rows b) ++ xs) (rows_inserted name batches)
+    ∙ sym (map-append {B = Tuple} (λ (row : List Value). (name, tuple_of row)) (batch_rows b) (flat_map batch_rows batches))
 
 none_added : (tables : List Table) (k : Constraint) (o : Option TableConstraint) → table_constraint_of tables k ≡ o → flat_map inserted (part_statements tables (added k)) ≡ []
-none_added tables k (Some w) e = rw e refl
-none_added tables k None e = rw e refl
+none_added tables k (Some w) e = ap (flat_map inserted) (added_some tables k w e)
+none_added tables k None e = ap (flat_map inserted) (added_none tables k e)
 
 parts_inserted : (tables : List Table) (parts : List Part)
     → flat_map inserted (flat_map (part_statements tables) parts) ≡ tuples_of (flat_map part_tables parts) (flat_map part_rows parts)
@@ -142,7 +151,7 @@ parts_inserted tables [] = refl
 parts_inserted tables (created t constraints batches ∷ parts) =
     flat_map-append inserted (flat_map (batch_statements t.name) batches) (flat_map (part_statements tables) parts)
     ∙ ap (λ (xs : List Tuple). xs ++ flat_map inserted (flat_map (part_statements tables) parts)) (rows_inserted t.name batches)
-    ∙ ap (λ (xs : List Tuple). map (λ (row : List Value). (t.name, tuple_of row)) (flat_map batch_rows batches) ++ xs) (parts_inserted tables parts)
+    ∙ ap (λ (xs : List Tuple). map {B = Tuple} (λ (row : List Value). (t.name, tuple_of row)) (flat_map batch_rows batches) ++ xs) (parts_inserted tables parts)
 parts_inserted tables (added k ∷ parts) =
     flat_map-append inserted (part_statements tables (added k)) (flat_map (part_statements tables) parts)
     ∙ ap (λ (xs : List Tuple). xs ++ flat_map inserted (flat_map (part_statements tables) parts)) (none_added tables k (table_constraint_of tables k) refl)
@@ -197,8 +206,8 @@ committed_rows name (b ∷ batches) rest h = (refl, (tt {0}, committed_rows name
 
 committed_added : (tables : List Table) (k : Constraint) (rest : List Statement) (o : Option TableConstraint) → table_constraint_of tables k ≡ o → Committed rest
     → Committed (part_statements tables (added k) ++ rest)
-committed_added tables k rest (Some w) e h = rw e (tt {0}, h)
-committed_added tables k rest None e h = rw e h
+committed_added tables k rest (Some w) e h = subst (λ ss. Committed (ss ++ rest)) (sym (added_some tables k w e)) (tt {0}, h)
+committed_added tables k rest None e h = subst (λ ss. Committed (ss ++ rest)) (sym (added_none tables k e)) h
 
 committed_parts : (tables : List Table) (parts : List Part) (rest : List Statement) → Committed rest → Committed (flat_map (part_statements tables) parts ++ rest)
 committed_parts tables [] rest h = h
@@ -311,7 +320,8 @@ said_rows name (b ∷ batches) = said_rows name batches
 
 said_added : (tables : List Table) (k : Constraint) → IsOfTable k.rule → flat_map said (part_statements tables (added k)) ≡ said_of k ∷ []
 said_added tables k h =
-    let w = written_of tables k h in rw w.1 (ap (λ x. x ∷ []) (said_as k.deferrable k.initially (Some k.name)))
+    let w = written_of tables k h in
+    ap (flat_map said) (added_some tables k (with_rule k w.0) w.1) ∙ ap (λ x. x ∷ []) (said_as k.deferrable k.initially (Some k.name))
 
 said_parts : (tables : List Table) (parts : List Part) → AreParts tables parts → EachInOrder parts
     → flat_map said (flat_map (part_statements tables) parts) ≡ map said_of (flat_map part_constraints parts)

@@ -185,8 +185,9 @@ fn push_own<'a>(
         return Ok(others);
     }
     let count = count_created(own, is_large);
-    push_created(alloc, scripts, tables, table, &own[..count], rows)?;
-    Ok(&constraints[count..])
+    let (first, rest) = constraints.split_at(count);
+    push_created(alloc, scripts, tables, table, first, rows)?;
+    Ok(rest)
 }
 
 // Adds a table after the constraints of earlier tables that come before its own; answers those that are left.
@@ -220,7 +221,8 @@ pub fn push_tables<'a>(
     let mut left = constraints;
     let mut place = 0usize;
     for rows in lists {
-        left = push_table(alloc, scripts, tables, place, left, rows.as_slice())?;
+        let more = push_table(alloc, scripts, tables, place, left, rows.as_slice())?;
+        left = more;
         place += 1;
     }
     Ok(left)

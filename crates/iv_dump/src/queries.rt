@@ -1,6 +1,6 @@
 //! The rows of tables, by SELECT.
 ghost use Rattle.std.specs.Prelude.{◌≡◌, Ok, IfOk, map};
-ghost use Rattle.iv_machine.specs.declared.answer.Answer.TheVariants as answer;
+ghost use Rattle.iv_machine.specs.declared.answer.Answer.TheVariants.{Rows};
 ghost use Rattle.iv_step.specs.Step.{step};
 ghost use Rattle.iv_dump.specs.Dumps.{rows_named, rows_of};
 ghost use Rattle.iv_dump.specs.Making.{rows_query};
@@ -40,7 +40,7 @@ fn answer_of<X: Executor>(database: &mut X, query: Select) -> Outcome
 
 // The rows of an answer. A SELECT has no other.
 fn rows_in(answer: Answer) -> Result<Items<Row>, DumpRefusal>
-    ensures { IfOk result (λ rows. answer ≡ answer.Rows rows) }
+    ensures { IfOk result (λ rows. answer ≡ Rows rows) }
 {
     match answer {
         Answer::Rows(rows) => Ok(rows),
@@ -50,7 +50,6 @@ fn rows_in(answer: Answer) -> Result<Items<Row>, DumpRefusal>
 }
 
 // The rows of the table of this name.
-#[tactic(auto, using(crate::proofs::Selected::rows_answered))]
 fn rows_named<X: Executor>(database: &mut X, name: &Name) -> Result<Items<Row>, DumpRefusal>
     ensures state { X.state database.new ≡ X.state database.old }
     ensures rows { IfOk result (λ rows. rows ≡ rows_named (X.state database.old) name.now) }
