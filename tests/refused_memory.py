@@ -96,12 +96,16 @@ def untold(whole, out):
 
 
 def unlisted(trial, out):
-    """Whether a transcript is another one in which the lines of what is pending are left out once, and the next ones tell what they told."""
-    if pending.without(trial.whole[0]) != pending.without(out):
-        return False
-    want, got = (pending.followed(trial.statements, run.groups(text)[0]) for text in (trial.whole[0], out))
+    """Whether a transcript is another one in which one statement has no lines of what is pending, and the next statement tells what they
+    told: no other line differs, and what is pending by the lines is the same after every other statement."""
+    want, got = (run.groups(text)[0] for text in (trial.whole[0], out))
     unlike = [place for place, pair in enumerate(zip(want, got)) if pair[0] != pair[1]]
-    return len(unlike) == 1 and got[unlike[0]] == (got[unlike[0] - 1] if unlike[0] > 0 else set())
+    if pending.without(trial.whole[0]) != pending.without(out) or unlike not in ([place, place + 1][:len(unlike)] for place in unlike[:1]):
+        return False
+    before, after = (pending.followed(trial.statements, outcomes) for outcomes in (want, got))
+    differ = [place for place, pair in enumerate(zip(before, after)) if pair[0] != pair[1]]
+    left_out = got[unlike[0]] == pending.without(want[unlike[0]])
+    return left_out and differ == unlike[:1] and after[unlike[0]] == (after[unlike[0] - 1] if unlike[0] > 0 else set())
 
 
 def judge(trial, got, is_one):
