@@ -30,15 +30,15 @@ CRATES = os.path.join(HERE, '..', 'crates')
 BELOW = ['iv_value', 'iv_numbers', 'iv_expr', 'iv_syntax', 'iv_catalogue', 'iv_key']
 # The crates whose definitions are changed, each with the crate whose worked scripts have to notice.
 NOTICES = {
-    'iv_machine': 'iv_worked_machine', 'iv_account': 'iv_worked_machine', 'iv_key': 'iv_worked_machine',
-    'iv_resolution': 'iv_worked_resolution', 'iv_syntax': 'iv_worked_resolution',
+    'iv_machine': 'iv_worked', 'iv_account': 'iv_worked', 'iv_key': 'iv_worked',
+    'iv_resolution': 'iv_worked', 'iv_syntax': 'iv_worked',
     'iv_step': 'iv_step', 'iv_print': 'iv_print', 'iv_script': 'iv_script', 'iv_explain': 'iv_explain',
 }
 # Of these the definitions alone are copied. Four have their worked scripts beside the definitions: in one file, with one of theorems.
 DEFINED = ['iv_machine', 'iv_account', 'iv_resolution', 'iv_step', 'iv_print', 'iv_script', 'iv_explain']
 OWN = {'iv_step': ('Worked', 'WorkedScripts'), 'iv_print': ('WorkedAccounts', 'Worked'), 'iv_script': ('WorkedLines', 'Worked'),
        'iv_explain': ('WorkedNames', 'ComputedNames')}
-WORKED = ['iv_worked_machine', 'iv_worked_resolution']
+WORKED = ['iv_worked']
 CHANGES = os.path.join(HERE, 'definitions.edits')
 DIGEST = os.path.join(HERE, 'definitions.digest')
 DIGESTED = [crate + '/specs' for crate in ['iv_key', 'iv_syntax'] + DEFINED] + [crate + part for crate in WORKED for part in ('/specs', '/proofs', '/src')]

@@ -73,7 +73,7 @@ def sources():
 
 
 def is_checked(path):
-    return not path.startswith(('crates/iv_tests_', 'crates/iv_worked_')) and os.path.basename(path) != 'tests.rt'
+    return not path.startswith(('crates/iv_tests_', 'crates/iv_worked/')) and os.path.basename(path) != 'tests.rt'
 
 
 def paragraphs():

@@ -123,10 +123,10 @@ fn laws_of_accounts_are_called(rt: HostRuntime) {
 
 #[test]
 fn worked_scripts_are_called(rt: HostRuntime) {
-    iv_worked_machine::worked_scripts();
+    iv_worked::worked_scripts();
 }
 
 #[test]
 fn worked_statements_are_called(rt: HostRuntime) {
-    iv_worked_resolution::worked_statements();
+    iv_worked::worked_statements();
 }
