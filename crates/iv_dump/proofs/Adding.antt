@@ -1,6 +1,5 @@
 -- Scripts with further statements.
-use Rattle.std.proofs.Common.{inl, inr, ◌≡◌, ◌⊎◌, ℕ, List, [], ◌∷◌, ◌++◌, ◌∙◌, Result, Ok, Err, OnOk, refl, sym, ap, subst, map, append-nil, append_assoc}
-use Rattle.std.specs.Prelude.{flat_map}
+use Rattle.std.proofs.Common.{inl, inr, ◌≡◌, ℕ, List, [], ◌∷◌, ◌++◌, ◌∙◌, Result, Ok, Err, OnOk, refl, sym, ap, subst, map, append-nil, append_assoc}
 use Rattle.std.proofs.lemmas.Grind.{flat_map-append}
 use Rattle.std.proofs.lemmas.List.{map-append}
 use Rattle.iv_dump.specs.Types.{Statement}

@@ -10,7 +10,7 @@ use Rattle.iv_catalogue.specs.declared.plan.QueryPlan.{QueryPlan}
 use Rattle.iv_catalogue.specs.declared.plan.QueryPlan.TheVariants as query
 use Rattle.iv_catalogue.specs.Refusals.{is_memory}
 use Rattle.iv_machine.specs.declared.answer.Answer.{Answer}
-use Rattle.iv_machine.specs.Machine.{State, Outcome, MemoryRefused, answer_outcome, count_answer, is_open, occasion_of, outcome_unless, query_outcome, resolution_outcome, rows_answer, transaction_cause}
+use Rattle.iv_machine.specs.Machine.{State, Outcome, answer_outcome, count_answer, is_open, occasion_of, outcome_unless, query_outcome, resolution_outcome, rows_answer, transaction_cause}
 use Rattle.iv_resolution.specs.Bound.{bound_select}
 use Rattle.iv_resolution.specs.Resolution.{least, refused_or_planned}
 use Rattle.iv_resolution.specs.Tables.{table_names}

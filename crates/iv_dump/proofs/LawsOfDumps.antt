@@ -1,5 +1,5 @@
 -- What follows for every dump.
-use Rattle.std.proofs.Common.{◌≡◌, ℕ, ◌+◌, Bool, true, false, ◌&&◌, List, [], ◌∷◌, ◌++◌, ◌∙◌, Option, Some, None, refl, sym, ap, subst, map, take, drop, append-nil, append_assoc, take-append-drop}
+use Rattle.std.proofs.Common.{◌≡◌, ℕ, ◌+◌, Bool, true, false, ◌&&◌, List, [], ◌∷◌, ◌++◌, ◌∙◌, Option, Some, None, refl, sym, ap, subst, map, append-nil, append_assoc, take-append-drop}
 use Rattle.std.specs.Prelude.{flat_map, filter_map, option_map}
 use Rattle.std.specs.List.{list_all}
 use Rattle.std.proofs.lemmas.Grind.{flat_map-append}
@@ -9,20 +9,19 @@ use Rattle.iv_syntax.specs.declared.statement.ConstraintMode.TheVariants as mode
 use Rattle.iv_syntax.specs.declared.statement.Insert.{Insert}
 use Rattle.iv_syntax.specs.declared.statement.ValueOrDefault.{ValueOrDefault}
 use Rattle.iv_syntax.specs.declared.table.TableConstraint.{TableConstraint}
-use Rattle.iv_syntax.specs.declared.table.TableElement.{TableElement}
 use Rattle.iv_syntax.specs.declared.table.TableElement.TheVariants as element
 use Rattle.iv_syntax.specs.declared.table.TableRule.{TableRule}
 use Rattle.iv_syntax.specs.declared.trigger.TriggerDefinition.{TriggerDefinition}
 use Rattle.iv_catalogue.specs.declared.catalogue.Column.{Column}
-use Rattle.iv_resolution.specs.Constraints.{WrittenConstraint, is_deferrable, initial_mode, column_constraint, element_constraints, table_constraint, written_constraints}
+use Rattle.iv_resolution.specs.Constraints.{is_deferrable, initial_mode, column_constraint, element_constraints, written_constraints}
 use Rattle.iv_restate.specs.Constraints.{column_constraint_of, columns_at, table_constraint_of, table_name_at, table_rule_of, time_of, with_rule}
-use Rattle.iv_restate.specs.Statements.{add_constraint, after_null, before_null, column_element, constraint_elements, count_before, count_up_to, create_table, elements_of, from_null, insert_rows, tuple_of, up_to_null}
+use Rattle.iv_restate.specs.Statements.{after_null, before_null, column_element, constraint_elements, count_before, count_up_to, elements_of, from_null, tuple_of, up_to_null}
 use Rattle.iv_restate.specs.TableLaws.{AreInOrder, AreOfTable, IsOfTable}
 use Rattle.iv_restate.specs.Triggers.{CreatesTrigger}
 use Rattle.iv_dump.specs.Types.{Value, Statement, Table, Rule, Constraint, Trigger}
 use Rattle.iv_dump.specs.Types.statement
 use Rattle.iv_dump.specs.Types.rule
-use Rattle.iv_dump.specs.Dumps.{AreParts, Batch, CreateTriggers, IsPart, Part, added, batch_rows, batch_statements, created, part_constraints, part_rows, part_statements, part_tables}
+use Rattle.iv_dump.specs.Dumps.{AreParts, Batch, CreateTriggers, Part, added, batch_rows, batch_statements, created, part_constraints, part_rows, part_statements, part_tables}
 use Rattle.iv_dump.specs.DumpLaws.{ConstraintsAreSaid, EachInOrder, InsertsAreCommitted, RowsAreInserted, Said, TriggersAreLast, begins_with_commit, inserted, is_trigger, said, said_by, said_of, tuples_of}
 
 -- ---- triggers

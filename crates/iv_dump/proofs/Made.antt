@@ -7,7 +7,7 @@ use Rattle.std.proofs.lemmas.List.Folds.{list_any-append}
 use Rattle.std.proofs.lemmas.List.Elements.{filter-append}
 use Rattle.std.proofs.lemmas.Bool.Decides.{nat_tests}
 use Rattle.std.proofs.lemmas.List.{take_more}
-use Rattle.std.proofs.lemmas.Option.{get_or_from_slice_get, slice_get-get_or}
+use Rattle.std.proofs.lemmas.Option.{get_or_from_slice_get}
 use Rattle.iv_catalogue.specs.Catalogues.{Schema}
 use Rattle.iv_restate.specs.Statements.{create_table, add_constraint, insert_rows}
 use Rattle.iv_restate.specs.TableLaws.{IsOfTable}
@@ -15,7 +15,7 @@ use Rattle.iv_restate.specs.Triggers.{CreatesTrigger}
 use Rattle.iv_dump.specs.Types.{Value, Statement, Table, Rule, Constraint, Trigger}
 use Rattle.iv_dump.specs.Types.rule
 use Rattle.iv_dump.specs.Types.statement
-use Rattle.iv_dump.specs.Dumps.{AreMade, AreOf, AreParts, Batch, CreateTriggers, IsDump, Part, added, batch_rows, batch_statements, created, has_null_after_key, is_null_in, is_other, is_own_key, part_constraints, part_rows, part_statements, part_tables}
+use Rattle.iv_dump.specs.Dumps.{AreOf, AreParts, Batch, CreateTriggers, IsDump, Part, added, batch_rows, batch_statements, created, has_null_after_key, is_null_in, is_other, is_own_key, part_constraints, part_rows, part_statements, part_tables}
 use Rattle.iv_dump.specs.Making.{Adds, Creates, Filled, Inserts, Makes, Triggers, own_count}
 use Rattle.iv_dump.proofs.Adding.{adds_nothing, adds_then}
 

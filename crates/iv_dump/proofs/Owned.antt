@@ -1,5 +1,5 @@
 -- The constraints that a table is made with, of those that are left.
-use Rattle.std.proofs.Common.{◌≡◌, ℕ, zero, suc, ◌≤◌, ◌<◌, true, List, [], ◌∷◌, ◌++◌, ◌∙◌, Option, Some, None, IfSome, Result, Ok, Err, IfOk, OnOk, refl, sym, ap, subst, arith, length, take, drop, take-append-drop, slice_get}
+use Rattle.std.proofs.Common.{◌≡◌, ℕ, zero, suc, ◌≤◌, true, List, [], ◌∷◌, ◌++◌, ◌∙◌, Option, Some, None, IfSome, refl, sym, ap, subst, arith, length, take, drop, take-append-drop, slice_get}
 use Rattle.iv_dump.specs.Types.{Value, Table, Constraint}
 use Rattle.iv_dump.specs.Dumps.{AreOf, has_null_after_key}
 use Rattle.iv_dump.specs.Making.{Creates, Filled, Makes, own_count}

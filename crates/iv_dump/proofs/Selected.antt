@@ -1,5 +1,5 @@
 -- What a SELECT of all rows of a table answers.
-use Rattle.std.proofs.Common.{◌≡◌, ℕ, Bool, true, false, List, [], ◌∷◌, ◌∙◌, Option, Some, None, Result, Ok, Err, IfOk, refl, sym, ap, map, filter_map}
+use Rattle.std.proofs.Common.{◌≡◌, ℕ, Bool, true, List, [], ◌∷◌, ◌∙◌, Option, Some, None, Result, Ok, Err, IfOk, refl, sym, ap, map, filter_map}
 use Rattle.std.specs.Prelude.{unwrap_or}
 use Rattle.iv_value.specs.declared.value.Value.{Value}
 use Rattle.iv_expr.specs.declared.row.StoredRow.{StoredRow}
@@ -21,7 +21,7 @@ use Rattle.iv_machine.specs.Context.{each}
 use Rattle.iv_machine.specs.Proposals.{element_where_true, holds, matching_rows, with_cause}
 use Rattle.iv_machine.specs.Machine.{State, Outcome, answer_outcome, is_open, occasion_of, outcome_unless, output_row, query_outcome, resolution_outcome, rows_answer, transaction_cause}
 use Rattle.iv_resolution.specs.Bound.{bound_list, bound_select, table_id}
-use Rattle.iv_resolution.specs.Resolution.{least, refused_or_planned, resolution}
+use Rattle.iv_resolution.specs.Resolution.{least, refused_or_planned}
 use Rattle.iv_resolution.specs.Tables.{table_names}
 use Rattle.iv_step.specs.Step.{Executes, step}
 use Rattle.iv_dump.specs.declared.refusal.DumpRefusal.{DumpRefusal}

@@ -1,5 +1,5 @@
 -- What the functions say, by what those that they call say.
-use Rattle.std.proofs.Common.{◌≡◌, ℕ, ◌+◌, ◌≤◌, ◌<◌, true, List, [], ◌∷◌, ◌++◌, ◌∙◌, Option, Some, None, IfSome, Result, Ok, Err, IfOk, OnOk, refl, sym, ap, subst, filter, length, map, take, drop, get_or, take-append-drop, slice_get, append-nil}
+use Rattle.std.proofs.Common.{◌≡◌, ℕ, ◌+◌, ◌≤◌, ◌<◌, true, List, [], ◌∷◌, ◌++◌, ◌∙◌, Option, Some, IfSome, Result, Ok, Err, IfOk, OnOk, refl, sym, ap, subst, filter, length, map, take, drop, get_or, slice_get, append-nil}
 use Rattle.std.proofs.lemmas.List.{length-map}
 use Rattle.iv_catalogue.specs.Catalogues.{Schema}
 use Rattle.iv_machine.specs.Machine.{State}

@@ -1,18 +1,17 @@
 -- The tree of a CHECK can be written if the names of the columns can.
-use Rattle.std.proofs.Common.{◌≡◌, ℕ, zero, suc, ◌≤◌, Bool, true, false, ◌&&◌, ◌||◌, List, [], ◌∷◌, ◌++◌, ◌∙◌, Option, Some, None, refl, sym, ap, subst, slice_get, option_map, pos, negsuc, if◌then◌else◌}
-use Rattle.iv_syntax.specs.declared.limits.TheConstants.{DEEPEST_TREE, GREATEST_INTEGER}
-use Rattle.iv_syntax.specs.Trees.{group, signed, product, sum, enclosed, negated, both, either, exists_where, condition_depth}
+use Rattle.std.proofs.Common.{◌≡◌, ℕ, zero, suc, ◌≤◌, Bool, true, false, ◌&&◌, ◌||◌, List, [], ◌∷◌, ◌++◌, Option, Some, None, refl, sym, subst, slice_get, option_map, pos, negsuc, if◌then◌else◌}
+use Rattle.iv_syntax.specs.declared.limits.TheConstants.{GREATEST_INTEGER}
+use Rattle.iv_syntax.specs.Trees.{group, signed, product, sum, enclosed, negated, both, either, exists_where}
 use Rattle.iv_lex.specs.declared.kind.TokenKind.TheVariants as kind
-use Rattle.iv_lex.specs.Words.{Word, name, plain}
+use Rattle.iv_lex.specs.Words.{name, plain}
 use Rattle.iv_parse_terms.specs.After.{is_plain}
 use Rattle.iv_parse_terms.specs.Expressions.{spelling, sign_kind, qualifier_spelling}
-use Rattle.iv_parse_terms.specs.Conditions.{Spelled, comparison_kind, IsCondition}
+use Rattle.iv_parse_terms.specs.Conditions.{Spelled, comparison_kind}
 use Rattle.iv_write.specs.Spelling.{IsName, AreWritten}
 use Rattle.iv_write.specs.Terms.{condition_words}
-use Rattle.iv_write.specs.Says.{ConditionCanBeWritten}
 use Rattle.iv_write.proofs.Canonical.{joined, closed}
 use Rattle.iv_expr.specs.Trees.{plus, minus, times, not_c, and_c, or_c, exists_c}
-use Rattle.iv_resolution.specs.Scopes.{NamedColumn, NamedRange}
+use Rattle.iv_resolution.specs.Scopes.{NamedColumn}
 use Rattle.iv_restate.specs.Types.{Value, Comparison, Cond, Expr, Sign, Expression, Condition}
 use Rattle.iv_restate.specs.Types.value
 use Rattle.iv_restate.specs.Types.comparison
@@ -21,7 +20,7 @@ use Rattle.iv_restate.specs.Types.expr
 use Rattle.iv_restate.specs.Types.sign
 use Rattle.iv_restate.specs.Types.expression
 use Rattle.iv_restate.specs.Types.condition
-use Rattle.iv_restate.specs.Parentheses.{is_sum, is_product, is_zero, is_atom, is_either, is_both, is_negated, as_term, as_factor, summed, difference, multiplied, denied, all_of, one_of}
+use Rattle.iv_restate.specs.Parentheses.{is_sum, is_product, is_zero, is_atom, is_either, is_both, is_negated, summed}
 use Rattle.iv_restate.specs.Trees.{no_naming, check_range, check_of, literal_of, expression_of, condition_of, column_or_null, column_named}
 use Rattle.iv_restate.specs.Laws.{IsLiteral, IsColumn, IsOver, IsCheckOver}
 use Rattle.iv_dump.specs.Laws.{AreNames, ChecksCanBeWritten}

@@ -1,6 +1,6 @@
 -- What a dump is: statements that make the tables of a database with their rows, its constraints and its triggers ("Table definition",
 -- "Insert statement", "Add table constraint definition", "Trigger definition").
-use Rattle.std.specs.Prelude.{◌≡◌, ℕ, ◌==◌, Bool, true, false, not, ◌&&◌, ◌||◌, List, [], ◌∷◌, ◌++◌, filter, flat_map, map, slice_get, Some, None, unwrap_or}
+use Rattle.std.specs.Prelude.{◌≡◌, ℕ, ◌==◌, Bool, false, not, ◌&&◌, ◌||◌, List, [], ◌∷◌, ◌++◌, filter, flat_map, map, slice_get, Some, None, unwrap_or}
 use Rattle.std.specs.List.{list_any}
 use Rattle.iv_expr.specs.Scopes.{contents, table_rows}
 use Rattle.iv_catalogue.specs.Catalogues.{Schema, table_named}
@@ -8,7 +8,7 @@ use Rattle.iv_machine.specs.Machine.{State}
 use Rattle.iv_restate.specs.Statements.{create_table, add_constraint, insert_rows}
 use Rattle.iv_restate.specs.TableLaws.{IsOfTable}
 use Rattle.iv_restate.specs.Triggers.{CreatesTrigger}
-use Rattle.iv_dump.specs.Types.{Value, Statement, Table, Rule, Constraint, Trigger}
+use Rattle.iv_dump.specs.Types.{Value, Statement, Table, Constraint, Trigger}
 use Rattle.iv_dump.specs.Types.statement
 use Rattle.iv_dump.specs.Types.rule
 use Rattle.iv_dump.specs.Scripts.{AreScripts}

@@ -1,7 +1,6 @@
 -- When the tree of a CHECK can be written.
 use Rattle.std.specs.Prelude.{◌≤◌, List, [], ◌∷◌}
 use Rattle.iv_syntax.specs.declared.limits.TheConstants.{DEEPEST_TREE}
-use Rattle.iv_syntax.specs.declared.tree.Condition.{Condition}
 use Rattle.iv_syntax.specs.Trees.{condition_depth}
 use Rattle.iv_expr.specs.declared.tree.Cond.{Cond}
 use Rattle.iv_resolution.specs.Scopes.{NamedColumn}

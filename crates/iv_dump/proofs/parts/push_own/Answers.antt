@@ -1,4 +1,4 @@
-use Rattle.std.proofs.Common.{◌≡◌, ◌≤◌, Some, arith, drop, length, rules, slice_get, take, true}
+use Rattle.std.proofs.Common.{◌≡◌, ◌≤◌, Some, arith, length, rules, slice_get, take, true}
 use Rattle.std.proofs.lemmas.Grind.{common_steps}
 use Rattle.std.proofs.lemmas.Option.{gets}
 use Rattle.iv_dump.specs.Dumps.{has_null_after_key}

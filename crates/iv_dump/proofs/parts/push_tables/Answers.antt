@@ -1,4 +1,4 @@
-use Rattle.std.proofs.Common.{◌≡◌, ◌+◌, ap, arith, refl, rules}
+use Rattle.std.proofs.Common.{◌≡◌, ◌+◌, ap, refl, rules}
 use Rattle.iv_dump.proofs.Made.{makes_nothing}
 use Rattle.iv_dump.proofs.Told.{tables_step}
 use Rattle.iv_dump.proofs.parts.push_tables.Goals as goal

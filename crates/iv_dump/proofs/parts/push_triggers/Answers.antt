@@ -1,4 +1,4 @@
-use Rattle.std.proofs.Common.{◌+◌, ◌∷◌, ◌∙◌, [], ap, drop, sym}
+use Rattle.std.proofs.Common.{◌+◌, ◌∷◌, ◌∙◌, ap, drop, sym}
 use Rattle.std.proofs.lemmas.List.{drop_more}
 use Rattle.iv_dump.proofs.Made.{triggers_more, triggers_none}
 use Rattle.iv_dump.proofs.parts.push_triggers.Goals as goal
