@@ -162,7 +162,7 @@ const tests = {
   },
   skipped_triggers_as_objects() {
     const session = engine.open({ explain: true });
-    session.execute("CREATE TABLE t (a INT, b VARCHAR(9)); CREATE TABLE u (a INT);");
+    session.execute("CREATE TABLE t (a INT, b VARCHAR(19)); CREATE TABLE u (a INT);");
     session.execute("CREATE TRIGGER hold BEFORE INSERT ON t WHEN (NULL > 0) SIGNAL 'no'; CREATE TRIGGER take AFTER INSERT ON t REFERENCING NEW AS n FOR EACH ROW WHEN (n.a > 1) BEGIN ATOMIC DELETE FROM u; INSERT INTO u VALUES (n.a); END;");
     session.execute("INSERT INTO t VALUES (1, 'x skipped: '), (2, NULL);");
     assert.deepEqual(session.account, [

@@ -1,19 +1,19 @@
 //! The last outcome in words.
-ghost use Rattle.std.specs.Prelude.{◌≡◌, ◌++◌, IfOk, decimal};
-ghost use Rattle.iv_print.specs.Lines.{line};
+ghost use Rattle.std.specs.Prelude.{◌≡◌, ◌++◌, Err, IfOk, decimal, true};
 ghost use Rattle.iv_print.specs.Writing.{Writes};
-ghost use Rattle.iv_connection.specs.Messages.{answer_message, constraint_part, heading, last_name_line, message_of, name_part, refusal_message, refusal_parts, row_part, signal_part, trigger_part};
+ghost use Rattle.iv_script.specs.Transcript.{name_line_of};
+ghost use Rattle.iv_connection.specs.OutcomeLines.{executed};
+ghost use Rattle.iv_connection.specs.Messages.{answer_message, constraint_part, heading, message_of, name_part, refusal_message, refusal_parts, row_part, signal_part, trigger_part};
 
 use crate::connection::Connection;
 use crate::outcomes::row_of;
 use crate::statements::executed;
 use crate::texts::{constraint_named, signal_of, trigger_named};
 use iv_catalogue::{Catalogue, Cause, ConstraintId, Refusal, TriggerId};
+use iv_explain::write_explained_line;
 use iv_print::{
-    DeviceFault, Format, Sink, Std, Style, cause_name, constraint_of, trigger_of, write_all,
-    write_number, write_outcome,
+    DeviceFault, Sink, Std, cause_name, constraint_of, trigger_of, write_all, write_number,
 };
-use iv_script::{Telling, write_lines};
 use iv_session::Answer;
 use std::alloc::Global;
 
@@ -168,53 +168,42 @@ fn refusal_message(
     Ok(writer.into_inner())
 }
 
-// The first line of the last outcome, with number 0.
-fn first_line(alloc: Global, connection: &Connection) -> Result<Vec<u8>, DeviceFault>
-    ensures { IfOk result (λ t. t.items ≡ line 0 connection.now.outcome connection.now.session.state.schema) }
+// The line of the name or the reason of a refusal of the statement that was executed last.
+fn write_name_line<W: Sink>(
+    sink: &mut W,
+    alloc: Global,
+    connection: &Connection,
+    refusal: &Refusal,
+) -> Result<(), DeviceFault>
+    ensures { Writes (W.state sink.old) (W.state sink.new) result
+        (name_line_of true connection.now.session.state.schema (executed connection.now.statements connection.now.executed)
+        (Err refusal.now)) }
 {
-    let mut writer = Std::new(Vec::new(alloc));
-    write_outcome(
-        &mut writer,
-        0,
-        &connection.outcome,
-        connection.session.catalogue(),
-    )?;
-    Ok(writer.into_inner())
-}
-
-// That line, and the one of the name that a refusal is about.
-fn both_lines(alloc: Global, connection: &Connection) -> Result<Vec<u8>, DeviceFault>
-    ensures { IfOk result (λ t. t.items ≡ line 0 connection.now.outcome connection.now.session.state.schema
-        ++ last_name_line connection.now) }
-{
-    let style = Style {
-        format: Format::Words,
-        explain: true,
-    };
-    let mut writer = Std::new(Vec::new(alloc));
-    write_lines(
-        &mut writer,
-        Telling { style, alloc },
-        0,
-        executed(connection),
-        &connection.outcome,
-        connection.session.catalogue(),
-        &[],
-    )?;
-    Ok(writer.into_inner())
-}
-
-// The line of the name that the last refusal is about.
-fn name_line(alloc: Global, connection: &Connection) -> Result<Vec<u8>, DeviceFault>
-    ensures { IfOk result (λ t. t.items ≡ last_name_line connection.now) }
-{
-    let first = first_line(alloc, connection)?;
-    let both = both_lines(alloc, connection)?;
-    let mut line = Vec::new(alloc);
-    match line.extend_from_slice(&both.as_slice()[first.len().min(both.len())..]) {
-        Ok(()) => Ok(line),
-        Err(_) => Err(DeviceFault),
+    match executed(connection) {
+        Some(statement) => write_explained_line(
+            sink,
+            alloc,
+            connection.session.catalogue(),
+            statement,
+            &refusal.cause,
+        ),
+        None => write_all(sink, b""),
     }
+}
+
+// The line of the name or the reason of a refusal.
+fn name_line(
+    alloc: Global,
+    connection: &Connection,
+    refusal: &Refusal,
+) -> Result<Vec<u8>, DeviceFault>
+    ensures { IfOk result (λ t. t.items
+        ≡ name_line_of true connection.now.session.state.schema (executed connection.now.statements connection.now.executed)
+        (Err refusal.now)) }
+{
+    let mut writer = Std::new(Vec::new(alloc));
+    write_name_line(&mut writer, alloc, connection, refusal)?;
+    Ok(writer.into_inner())
 }
 
 /// The last outcome in words, on one line without its end: what was done, or the cause of the refusal with the constraint,
@@ -225,7 +214,7 @@ pub fn message(alloc: Global, connection: &Connection) -> Result<Vec<u8>, Device
     match &connection.outcome {
         Ok(answer) => answer_message(alloc, answer),
         Err(refusal) => {
-            let line = name_line(alloc, connection)?;
+            let line = name_line(alloc, connection, refusal)?;
             refusal_message(
                 alloc,
                 connection.session.catalogue(),
