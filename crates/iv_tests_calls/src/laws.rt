@@ -46,6 +46,7 @@ fn laws_of_texts_are_called(rt: HostRuntime) {
     iv_write::laws::what_is_read_can_be_written();
     iv_restate::laws::what_is_written_is_itself();
     iv_dump::laws::checks_can_be_written();
+    iv_dump::laws::dumps_make_all();
 }
 
 #[test]
