@@ -83,9 +83,10 @@ function placeWaves(sheet, { waves, violations }, x, y, room) {
 }
 
 function triggerTitle(sheet, run) {
+  // Beside what became of it, the event would make the title wider than a phone.
+  if (run.when) return ` skipped: WHEN is ${run.when}`;
   const trigger = sheet.schema.triggers.get(run.trigger);
-  const skipped = run.when ? ` skipped: WHEN is ${run.when}` : "";
-  return `${trigger ? ` ${trigger.time} ${trigger.event} ON ${trigger.table}` : ""}${skipped}`;
+  return trigger ? ` ${trigger.time} ${trigger.event} ON ${trigger.table}` : "";
 }
 
 function triggerWidth(sheet, run) {
