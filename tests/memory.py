@@ -19,7 +19,6 @@ EXCEPTIONS = [
     ('iv_parse/src/parser.rt', 'run', 'AllocError', 'a rule of the grammar was refused memory, which is a variant of Stop'),
     ('iv_catalogue/src/cause.rt', 'from', 'OutOfMemory', 'the evaluation was refused memory, which is a fault of its own'),
     ('iv_template/src/places.rt', 'hole', 'AllocError', 'the search for a question mark was refused memory; a template that was filled has no other fault'),
-    ('iv_connection/src/messages.rt', 'name_line', 'DeviceFault', 'the copy of a line was refused memory, which is the one fault of the vector that a message is written to'),
     ('iv_dump/src/queries.rt', 'rows_named', 'NoMemory', 'a SELECT of all rows is refused only where memory was'),
     ('iv_dump/src/queries.rt', 'rows_in', 'NoMemory', 'a SELECT has no answer but rows'),
     ('iv_state/src/schema.rt', 'adding_refusal', 'AllocError', 'the store was refused memory, which is a fault of its own'),
