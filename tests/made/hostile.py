@@ -476,17 +476,23 @@ def explained_cascade(rows):
     return ';'.join(texts) + ';', '\n'.join(lines) + '\n'
 
 
+def now_pending(violations):
+    """The lines of violations that came."""
+    return ['  now pending ' + one for one in violations]
+
+
 def explained_keys(rows):
     """So many rows that each have the key of another, and as many whose primary key is null, for which COMMIT is refused; with accounts."""
     half = rows // 2
     texts = ['CREATE TABLE t (a INT CONSTRAINT k UNIQUE INITIALLY DEFERRED)', 'CREATE TABLE p (a INT PRIMARY KEY INITIALLY DEFERRED)']
     texts += ['INSERT INTO t VALUES ' + ','.join(numbered('({n})', half)), 'INSERT INTO t SELECT a FROM t', 'INSERT INTO p SELECT NULL FROM t', 'COMMIT']
     lines = ['1 ok', '2 ok', '3 ok %d' % half, *numbered('  insert T row {n} ({n})', half)]
-    lines += ['4 ok %d' % half, *['  insert T row %d (%d)' % (n + half, n) for n in range(1, half + 1)]]
-    lines += ['5 ok %d' % rows, *['  insert P row %d (NULL)' % n for n in range(rows + 1, 2 * rows + 1)], '6 refused 19 CommitRefused K row 1']
-    lines += ['  K: T row %d (%d) has the key of row %d (%d)' % (n, n, n + half, n) for n in range(1, half + 1)]
-    lines += ['  K: T row %d (%d) has the key of row %d (%d)' % (n + half, n, n, n) for n in range(1, half + 1)]
-    lines += ['  P_C1: P row %d (NULL) has a null in its key' % n for n in range(rows + 1, 2 * rows + 1)]
+    equal = ['K: T row %d (%d) has the key of row %d (%d)' % (n, n, n + half, n) for n in range(1, half + 1)]
+    equal += ['K: T row %d (%d) has the key of row %d (%d)' % (n + half, n, n, n) for n in range(1, half + 1)]
+    null = ['P_C1: P row %d (NULL) has a null in its key' % n for n in range(rows + 1, 2 * rows + 1)]
+    lines += ['4 ok %d' % half, *['  insert T row %d (%d)' % (n + half, n) for n in range(1, half + 1)], *now_pending(equal)]
+    lines += ['5 ok %d' % rows, *['  insert P row %d (NULL)' % n for n in range(rows + 1, 2 * rows + 1)], *now_pending(null)]
+    lines += ['6 refused 19 CommitRefused K row 1', *['  ' + one for one in equal + null]]
     return ';'.join(texts) + ';', '\n'.join(lines) + '\n'
 
 
@@ -496,9 +502,10 @@ def explained_nulls(rows):
     texts = ['CREATE TABLE t (a INT, b INT, CONSTRAINT k UNIQUE NULLS NOT DISTINCT (a, b) INITIALLY DEFERRED)']
     texts += ['INSERT INTO t VALUES ' + ','.join(numbered('({n},NULL)', half)), 'INSERT INTO t SELECT * FROM t', 'COMMIT']
     lines = ['1 ok', '2 ok %d' % half, *numbered('  insert T row {n} ({n}, NULL)', half)]
-    lines += ['3 ok %d' % half, *['  insert T row %d (%d, NULL)' % (n + half, n) for n in range(1, half + 1)], '4 refused 19 CommitRefused K row 1']
-    lines += ['  K: T row %d (%d, NULL) has the key of row %d (%d, NULL)' % (n, n, n + half, n) for n in range(1, half + 1)]
-    lines += ['  K: T row %d (%d, NULL) has the key of row %d (%d, NULL)' % (n + half, n, n, n) for n in range(1, half + 1)]
+    equal = ['K: T row %d (%d, NULL) has the key of row %d (%d, NULL)' % (n, n, n + half, n) for n in range(1, half + 1)]
+    equal += ['K: T row %d (%d, NULL) has the key of row %d (%d, NULL)' % (n + half, n, n, n) for n in range(1, half + 1)]
+    lines += ['3 ok %d' % half, *['  insert T row %d (%d, NULL)' % (n + half, n) for n in range(1, half + 1)], *now_pending(equal)]
+    lines += ['4 refused 19 CommitRefused K row 1', *['  ' + one for one in equal]]
     return ';'.join(texts) + ';', '\n'.join(lines) + '\n'
 
 

@@ -71,11 +71,12 @@ class WithoutTerminal(unittest.TestCase):
         self.assertEqual((done.stdout, done.stderr), ("ok\n", ""))
 
     def test_the_stored_example(self):
-        """In transcript mode with accounts the shell writes what the program does, except what came and went of what is pending: .pending shows that."""
+        """In transcript mode with accounts the shell writes what the program does, except the columns of queries, and what came and went of what is
+        pending: .pending shows that."""
         root = Path(os.environ.get("SQLKEEP_ROOT", Path(__file__).resolve().parents[3]))
         for path in sorted((root / "examples").glob("*.account")):
             lines = path.read_text("utf-8").replace("end rolled back\n", "").splitlines(True)
-            wanted = "".join(line for line in lines if not line.startswith(("  now pending ", "  no longer pending ")))
+            wanted = "".join(line for line in lines if not line.startswith(("  columns ", "  now pending ", "  no longer pending ")))
             output, _, _ = ran(".mode transcript\n.explain on\n" + path.with_suffix(".sql").read_text("utf-8"))
             self.assertEqual(output, wanted, path.name)
 
