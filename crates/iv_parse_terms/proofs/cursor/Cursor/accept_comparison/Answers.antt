@@ -6,13 +6,13 @@ use Rattle.iv_parse_terms.proofs.cursor.Cursor.accept_comparison.Goals as goal
 
 pub pass-requires : goal.pass-requires
 pass-requires c =
-    let inside = within_some comparison_in c.in-Some.comparison c.args.source.now c.place.result (sym c.in-Some.is ∙ c.comparison_at.ensures.found) in
-    omega (arith, inside, c.comparison_at.ensures.few, c.place.ensures)
+    let inside = within_some comparison_in c.in-Some.comparison c.look.new.self.words c.look.new.self.place (sym c.in-Some.is ∙ c.comparison_here.ensures.found) in
+    omega (arith, inside, c.comparison_here.ensures.few)
 
 pub returns : goal.returns
 returns c =
-    one_found_by after_comparison comparison_in one_comparison c.args.source.now c.args.self.now c.look.new.self c.pass.new.self c.in-Some.comparison c.place.result c.look.ensures c.place.ensures (sym c.in-Some.is ∙ c.comparison_at.ensures.found) c.pass.ensures
+    one_found_by after_comparison comparison_in one_comparison c.args.self.now c.look.new.self c.pass.new.self c.in-Some.comparison c.look.ensures (sym c.in-Some.is ∙ c.comparison_here.ensures.found) c.pass.ensures
 
 pub returns-in_default : goal.returns-in_default
 returns-in_default c =
-    one_missed_by after_comparison comparison_in one_comparison c.args.source.now c.args.self.now c.look.new.self c.miss_comparison.new.self c.place.result c.look.ensures c.place.ensures (sym c.in_default.is ∙ c.comparison_at.ensures.found) c.miss_comparison.ensures
+    one_missed_by after_comparison comparison_in one_comparison c.args.self.now c.look.new.self c.miss_comparison.new.self c.look.ensures (sym c.in_default.is ∙ c.comparison_here.ensures.found) c.miss_comparison.ensures

@@ -1,7 +1,7 @@
 use Rattle.std.proofs.Common.{sym, ◌∙◌}
 use Rattle.iv_lex.specs.Words.{folded_text, unquoted_text}
 use Rattle.iv_parse_terms.proofs.Fronts.{word_is}
-use Rattle.iv_parse_terms.proofs.source.token_is.Goals as goal
+use Rattle.iv_parse_terms.proofs.word.token_is.Goals as goal
 
 pub returns : goal.returns
 returns c = λ text.
