@@ -27,28 +27,29 @@ left_less p q ws h = let e = length-drop p ws in let f = length-drop q ws in ome
 module _ {A : Type 0} where
   pub rises : (rule : List Word → Option (A × List Word)) (c n : At) (r : Result A Stop) → Reads rule c r n → (o : Other) → Like n o → c.place ≤ n.place
   rises rule c n r h o l =
-      let p = h (record { words = o.words; = o.all; most = n.place }) (record { same = l.same; within = omega arith }) in
+      let p = h (record { words = o.words; all = o.all; most = n.place }) (record { own = l.own; same = l.same; within = omega arith }) in
       p.0.within
 
   -- a word and a part take words
   pub fewer : (rule : List Word → Option (A × List Word)) (c m n : At) (k : TokenKind) (r : Result A Stop) → Tries (after k) c true m → Reads rule m r n
       → length n.words - n.place < length c.words - c.place
   fewer rule c m n k r a h =
-      let mine : Other = record { words = c.words; = n.words; most = n.place } in
-      let own : Like n mine = record { same = refl; within = omega arith } in
+      let mine : Other = record { words = n.words; all = n.words; most = n.place } in
+      let own : Like n mine = record { own = refl; same = refl; within = omega arith } in
       let up = rises rule m n r h mine own in
       let q = a mine (h mine own).0 in
-      let s = after_shorter k (drop c.place) (drop m.place) q.1 in
-      let e = length-drop c.place in
-      let f = length-drop m.place in
-      omega (arith, up, s, e, f)
+      let s = after_shorter k (drop c.place n.words) (drop m.place n.words) q.1 in
+      let e = length-drop c.place n.words in
+      let f = length-drop m.place n.words in
+      let g = ap length q.0.own in
+      omega (arith, up, s, e, f, g)
 
   -- these parts before those that were found
   abbrev pub preceded : List A → Option (List A × List Word) → Option (List A × List Word)
   preceded items None = None
   preceded items (Some p) = Some (items ++ p.0, p.1)
 
-  -- these are the first parts of that is found, and the words that are left have the others
+  -- these are the first parts of all that is found, and the words that are left have the others
   pub record Rest (part : List Word → Option (A × List Word)) (items : List A) (ws : List Word) (whole : Option (List A × List Word)) : Type 0 where
     pub most : ℕ
     pub enough : length ws ≤ most
@@ -143,7 +144,7 @@ module _ {A : Type 0} where
 
   -- ---- parts one after the other
 
-  -- these are the first parts of that is found, and the words that are left have the others
+  -- these are the first parts of all that is found, and the words that are left have the others
   pub record Others (part : List Word → Option (Option A × List Word)) (items : List A) (ws : List Word) (whole : Option (List A × List Word)) : Type 0 where
     pub most : ℕ
     pub enough : length ws ≤ most
@@ -195,12 +196,13 @@ module _ {A : Type 0} where
 
   -- no further part begins: back at its place
   pub amid_end : (part : List Word → Option (Option A × List Word)) (start c n m : At) (items : List A) (p : ℕ) → Amid part start items c
-      → Reads part c (Ok None) n → p ≡ c.place → m ≡ record { place = p; furthest = n.furthest } → Reads (read_all part) start (Ok items) m
+      → Reads part c (Ok None) n → p ≡ c.place → m ≡ record { words = n.words; place = p; furthest = n.furthest } → Reads (read_all part) start (Ok items) m
   amid_end part start c n m items p amid h e f o l =
       let place = ap (λ (x : At). x.place) f ∙ e in
-      let wide : Other = record { words = o.words; = o.all; most = n.place } in
-      let q = h wide (record { same = subst (λ (x : At). take (suc x.furthest) o.words ≡ take (suc x.furthest)) f l.same; within = omega arith }) in
-      let here : Like c o = record { same = q.0.same; within = subst (λ x. x ≤ o.most) place l.within } in
+      let wide : Other = record { words = o.words; all = o.all; most = n.place } in
+      let same = subst (λ (x : At). take (suc x.furthest) o.words ≡ take (suc x.furthest) o.all) f l.same in
+      let q = h wide (record { own = sym (ap (λ (x : At). x.words) f) ∙ l.own; same = same; within = omega arith }) in
+      let here : Like c o = record { own = q.0.own; same = q.0.same; within = subst (λ x. x ≤ o.most) place l.within } in
       let s = amid o here in
       (s.0, others_end part items (ahead c o) (ahead n o) (read_all part (ahead start o)) s.1.most s.1.is q.1 ∙ ap (λ x. Some (items, drop x o.words)) (sym place))
 
@@ -227,9 +229,11 @@ module _ {A : Type 0} where
   -- a part takes words
   pub amid_fewer : (part : List Word → Option (Option A × List Word)) (c n : At) (a : A) → Takes part → Reads part c (Ok (Some a)) n → length n.words - n.place < length c.words - c.place
   amid_fewer part c n a takes h =
-      let mine : Other = record { words = c.words; = n.words; most = n.place } in
-      let own : Like n mine = record { same = refl; within = omega arith } in
-      let s = takes (drop c.place) (drop n.place) a (h mine own).1 in
-      let e = length-drop c.place in
-      let f = length-drop n.place in
-      omega (arith, s, e, f)
+      let mine : Other = record { words = n.words; all = n.words; most = n.place } in
+      let own : Like n mine = record { own = refl; same = refl; within = omega arith } in
+      let p = h mine own in
+      let s = takes (drop c.place n.words) (drop n.place n.words) a p.1 in
+      let e = length-drop c.place n.words in
+      let f = length-drop n.place n.words in
+      let g = ap length p.0.own in
+      omega (arith, s, e, f, g)

@@ -16,4 +16,3 @@ pub use parts::{Parse, ParseSome};
 pub use repeated::{sequence, series};
 pub use selecting::{delete, enclosed_condition, select, update};
 pub use table::{alter_table, create_table};
-

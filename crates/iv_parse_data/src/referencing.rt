@@ -30,10 +30,7 @@ fn transition_name(cursor: &mut Cursor<'_>) -> Result<Name, Stop>
 
 // An item, after OLD or NEW.
 #[tactic(auto, unfolding(crate::specs::readers::Items::read_referencing_item_of))]
-fn item_of(
-    cursor: &mut Cursor<'_>,
-    side: Side,
-) -> Result<Option<Referencing>, Stop>
+fn item_of(cursor: &mut Cursor<'_>, side: Side) -> Result<Option<Referencing>, Stop>
     ensures { Reads (read_referencing_item_of side) cursor.old result cursor.new }
 {
     let what = transition(cursor)?;

@@ -7,7 +7,8 @@ use crate::repeated::{enclosed, optional, series};
 use iv_lex::TokenKind;
 use iv_parse_terms::{Cursor, Stop, read_condition, read_from};
 use iv_syntax::{
-    Assignment, Condition, Delete, Expression, RangeName, Select, SelectList, Update, ValueOrDefault,
+    Assignment, Condition, Delete, Expression, RangeName, Select, SelectList, Update,
+    ValueOrDefault,
 };
 
 /// FROM, a table, its alias and WHERE with a condition.

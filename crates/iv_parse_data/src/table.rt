@@ -20,18 +20,18 @@ fn column_constraints(cursor: &mut Cursor<'_>) -> Result<Items<ColumnConstraint>
 
 // A column, from its type on.
 #[tactic(auto, unfolding(crate::specs::readers::Tables::read_column))]
-fn column(cursor: &mut Cursor<'_>, name: Name) -> Result<TableElement, Stop>
+fn column(cursor: &mut Cursor<'_>, name: Name) -> Result<ColumnDefinition, Stop>
     ensures { Reads (read_column name) cursor.old result cursor.new }
 {
     let kind = column_type(cursor)?;
     let default = optional::<Literal>(cursor, TokenKind::Default)?;
     let constraints = column_constraints(cursor)?;
-    Ok(TableElement::Column(ColumnDefinition {
+    Ok(ColumnDefinition {
         name,
         kind,
         default,
         constraints,
-    }))
+    })
 }
 
 impl Parse for TableElement {
@@ -40,7 +40,8 @@ impl Parse for TableElement {
     #[tactic(auto, unfolding(crate::specs::readers::Tables::read_element))]
     fn parse(cursor: &mut Cursor<'_>) -> Result<TableElement, Stop> {
         if let Some(name) = cursor.accept_name()? {
-            return column(cursor, name);
+            let column = column(cursor, name)?;
+            return Ok(TableElement::Column(column));
         }
         let constraint = table_constraint(cursor)?;
         Ok(TableElement::Constraint(constraint))

@@ -114,10 +114,10 @@ unfoldable pub read_column_constraints : List Word → FoundPart (List ColumnCon
 read_column_constraints = read_all read_column_constraint
 
 -- a column, after its name
-unfoldable pub read_column : List ℕ → List Word → FoundPart TableElement
+unfoldable pub read_column : List ℕ → List Word → FoundPart ColumnDefinition
 read_column n ws =
     then_read (read_type ws) (λ k a. then_read (read_default a) (λ d.
-    read_as (λ cs. Column (record { name = n; kind = k; default = d; constraints = cs })) read_column_constraints))
+    read_as (λ cs. record { name = n; kind = k; default = d; constraints = cs }) read_column_constraints))
 
 unfoldable pub read_key : List Word → FoundPart (List (List ℕ))
 read_key = read_enclosed (read_series read_name)
@@ -139,7 +139,7 @@ read_table_constraint ws =
     then_read (read_constraint_name ws) (λ n a. then_read (read_table_rule a) (λ r. read_as (λ t. record { name = n; rule = r; time = t }) read_time))
 
 unfoldable pub read_element : List Word → FoundPart TableElement
-read_element ws = if_some (after_name ws) (λ p. read_column p.0 p.1) (read_as Constraint read_table_constraint ws)
+read_element ws = if_some (after_name ws) (λ p. read_as Column (read_column p.0) p.1) (read_as Constraint read_table_constraint ws)
 
 unfoldable pub read_elements : List Word → FoundPart (List TableElement)
 read_elements = read_enclosed (read_series read_element)
