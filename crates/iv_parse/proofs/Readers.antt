@@ -1,11 +1,14 @@
 -- Parts of readers, named for proofs.
-use Rattle.std.specs.Prelude.{Some, List}
+use Rattle.std.specs.Prelude.{◌≡◌, Bool, true, false, Some, List}
+use Rattle.std.proofs.Common.{sym, ◌∙◌, ap}
+use Rattle.iv_lex.specs.declared.kind.TokenKind.{TokenKind}
 use Rattle.iv_lex.specs.declared.kind.TokenKind.TheVariants as kind
 use Rattle.iv_lex.specs.Words.{Word}
 use Rattle.iv_parse.specs.Types.{Statement}
 use Rattle.iv_parse.specs.Types.statement.{DropTrigger, StartTransaction, Commit, Rollback, Savepoint, Release, RollbackTo}
 use Rattle.iv_parse.specs.Types.statement
 use Rattle.iv_parse_terms.specs.After.{after, if_some, then_read}
+use Rattle.iv_parse_terms.specs.Reading.{Found}
 use Rattle.iv_parse_data.specs.readers.Series.{skip}
 use Rattle.iv_parse_data.specs.readers.Data.{FoundPart, then_word, read_name, read_insert, read_update, read_delete, read_select}
 use Rattle.std.specs.Prelude.{ℕ, None, [], ◌∷◌}
@@ -105,3 +108,8 @@ abbrev pub read_trigger_rest : List ℕ → ActionTime × TriggerEvent × List (
     → FoundPart TriggerDefinition
 read_trigger_rest n o table ws =
     then_read (read_middle ws) (λ m a. then_read (read_body a) (λ body rest. Some (trigger_of n o table m body, rest)))
+
+-- what is left after a word that may be left out
+pub skipped : (k : TokenKind) (ws rest : List Word) (b : Bool) → Found (after k ws) ws b rest → skip k ws ≡ rest
+skipped k ws rest true h = ap (λ o. if_some o (λ r. r) ws) h
+skipped k ws rest false h = ap (λ o. if_some o (λ r. r) ws) h.0 ∙ sym h.1

@@ -56,7 +56,7 @@ module _ {A : Type 0} where
     pub is : preceded items (read_more part most ws) ≡ whole
 
   -- so it is in words that are like these
-  abbrev pub Along : (List Word → Option (A × List Word)) → List Word → At → List A → At → Type 0
+  abbrev pub Along : (List Word → Option (A × List Word)) → At → List A → At → Type 0
   Along part start items c = (o : Other) → Like c o → Like start o × Rest part items (ahead c o) (read_series part (ahead start o))
 
   first_preceded : (a : A) (o : Option (List A × List Word)) → preceded (a ∷ []) o ≡ then_read o (with_first a)
@@ -150,7 +150,7 @@ module _ {A : Type 0} where
     pub enough : length ws ≤ most
     pub is : preceded items (read_sequence part most ws) ≡ whole
 
-  abbrev pub Amid : (List Word → Option (Option A × List Word)) → List Word → At → List A → At → Type 0
+  abbrev pub Amid : (List Word → Option (Option A × List Word)) → At → List A → At → Type 0
   Amid part start items c = (o : Other) → Like c o → Like start o × Others part items (ahead c o) (read_all part (ahead start o))
 
   abbrev pub Takes : (List Word → Option (Option A × List Word)) → Type 0

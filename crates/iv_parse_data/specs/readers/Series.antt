@@ -5,14 +5,18 @@ use Rattle.iv_lex.specs.declared.kind.TokenKind.TheVariants as kind
 use Rattle.iv_lex.specs.Words.{Word}
 use Rattle.iv_parse_terms.specs.After.{after, if_some, then_read}
 
+abbrev pub give : {A : Type 0} → A → List Word → Option (A × List Word)
+give a ws = Some (a, ws)
+
+-- what is made of a part
+abbrev pub read_as : {A B : Type 0} → (A → B) → (List Word → Option (A × List Word)) → List Word → Option (B × List Word)
+read_as make part ws = then_read (part ws) (λ a. give (make a))
+
+-- the part after this word, where the word is written
+unfoldable pub read_optional : {A : Type 0} → TokenKind → (List Word → Option (A × List Word)) → List Word → Option (Option A × List Word)
+read_optional k part ws = if_some (after k ws) (read_as Some part) (Some (None, ws))
+
 module _ {A : Type 0} where
-  abbrev pub give : A → List Word → Option (A × List Word)
-  give a ws = Some (a, ws)
-
-  -- the part after this word, where the word is written
-  unfoldable pub read_optional : TokenKind → (List Word → Option (A × List Word)) → List Word → Option (Option A × List Word)
-  read_optional k part ws = if_some (after k ws) (λ rest. then_read (part rest) (λ a. give (Some a))) (Some (None, ws))
-
   abbrev pub with_first : A → List A → List Word → Option (List A × List Word)
   with_first a bs ws = Some (a ∷ bs, ws)
 
@@ -49,10 +53,6 @@ module _ {A : Type 0} where
   read_all part ws = read_sequence part (length ws) ws
 
 module _ {A B : Type 0} where
-  -- what is made of a part
-  abbrev pub read_as : (A → B) → (List Word → Option (A × List Word)) → List Word → Option (B × List Word)
-  read_as make part ws = then_read (part ws) (λ a. give (make a))
-
   -- two parts in either order, each of which may be left out
   abbrev pub read_either_order : (List Word → Option (Option A × List Word)) → (List Word → Option (Option B × List Word)) → List Word → Option ((Option A × Option B) × List Word)
   read_either_order first second ws =

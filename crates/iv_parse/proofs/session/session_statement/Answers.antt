@@ -1,0 +1,124 @@
+use Rattle.iv_lex.specs.declared.kind.TokenKind.TheVariants as kind
+use Rattle.iv_parse_terms.specs.After.{after_name}
+use Rattle.iv_parse_terms.specs.Reading.{ahead}
+use Rattle.iv_parse_terms.proofs.Rules.{word_told, part_told}
+use Rattle.iv_parse.proofs.Readers.{skipped}
+use Rattle.iv_parse.specs.readers.Statements.{read_session_rule}
+use Rattle.iv_parse.proofs.session.session_statement.Goals as goal
+
+pub returns-then-accept : goal.returns-then-accept
+unfolding read_session_rule
+returns-then-accept c = λ o l.
+    let p2 = c.accept-2.ensures o l in
+    let p1 = c.if-accept.ensures o p2.0 in
+    (p1.0, rw (p1.1, skipped kind.Work (ahead c.accept.new.self o) (ahead c.accept-2.new.self o) c.accept-2.result p2.1))
+
+pub returns-then-accept-2 : goal.returns-then-accept-2
+unfolding read_session_rule
+returns-then-accept-2 c = λ o l.
+    let p3 = c.rollback.ensures o l in
+    let p2 = c.if-accept-2.ensures o p3.0 in
+    let p1 = c.if-accept.ensures o p2.0 in
+    (p1.0, rw (p1.1.0, ← p1.1.1, p2.1) p3.1)
+
+pub returns-in_err-expect : goal.returns-in_err-expect
+unfolding read_session_rule
+returns-in_err-expect c = λ o l.
+    let p4 = c.in_err-expect.ensures o l in
+    let p3 = c.if-accept-3.ensures o p4.0 in
+    let p2 = c.if-accept-2.ensures o p3.0 in
+    let p1 = c.if-accept.ensures o p2.0 in
+    (p1.0, word_told (λ x. x) c.from_residual.result c.in_err-expect.field-0.0 (read_session_rule (ahead c.args.cursor.now o)) (ahead c.expect.new.self o) c.from_residual.ensures (rw (p1.1.0, ← p1.1.1, p2.1.0, ← p2.1.1, p3.1, p4.1)))
+
+pub returns-then-accept-3 : goal.returns-then-accept-3
+unfolding read_session_rule
+returns-then-accept-3 c = λ o l.
+    let p4 = c.in_ok-expect.ensures o l in
+    let p3 = c.if-accept-3.ensures o p4.0 in
+    let p2 = c.if-accept-2.ensures o p3.0 in
+    let p1 = c.if-accept.ensures o p2.0 in
+    (p1.0, rw (p1.1.0, ← p1.1.1, p2.1.0, ← p2.1.1, p3.1, p4.1))
+
+pub returns-in_err-name : goal.returns-in_err-name
+unfolding read_session_rule
+returns-in_err-name c = λ o l.
+    let p5 = c.in_err-name.ensures o l in
+    let p4 = c.if-accept-4.ensures o p5.0 in
+    let p3 = c.if-accept-3.ensures o p4.0 in
+    let p2 = c.if-accept-2.ensures o p3.0 in
+    let p1 = c.if-accept.ensures o p2.0 in (
+      p1.0,
+      part_told (λ x. x) (λ x. x) c.from_residual-in_err-name.result c.in_err-name.field-0.0 (after_name (ahead c.accept-5.new.self o)) (read_session_rule (ahead c.args.cursor.now o)) (ahead c.name.new.self o) (ahead c.name.new.self o) c.from_residual-in_err-name.ensures p5.1
+          (λ x. rw (p1.1.0, ← p1.1.1, p2.1.0, ← p2.1.1, p3.1.0, ← p3.1.1, p4.1, x)),
+    )
+
+pub returns-then-accept-4 : goal.returns-then-accept-4
+unfolding read_session_rule
+returns-then-accept-4 c = λ o l.
+    let p5 = c.in_ok-name.ensures o l in
+    let p4 = c.if-accept-4.ensures o p5.0 in
+    let p3 = c.if-accept-3.ensures o p4.0 in
+    let p2 = c.if-accept-2.ensures o p3.0 in
+    let p1 = c.if-accept.ensures o p2.0 in
+    (p1.0, rw (p1.1.0, ← p1.1.1, p2.1.0, ← p2.1.1, p3.1.0, ← p3.1.1, p4.1, p5.1))
+
+pub returns-in_err-expect-2 : goal.returns-in_err-expect-2
+unfolding read_session_rule
+returns-in_err-expect-2 c = λ o l.
+    let p6 = c.in_err-expect-2.ensures o l in
+    let p5 = c.if-accept-5.ensures o p6.0 in
+    let p4 = c.if-accept-4.ensures o p5.0 in
+    let p3 = c.if-accept-3.ensures o p4.0 in
+    let p2 = c.if-accept-2.ensures o p3.0 in
+    let p1 = c.if-accept.ensures o p2.0 in
+    (p1.0, word_told (λ x. x) c.from_residual-in_err-expect-2.result c.in_err-expect-2.field-0.0 (read_session_rule (ahead c.args.cursor.now o)) (ahead c.expect-2.new.self o) c.from_residual-in_err-expect-2.ensures (rw (p1.1.0, ← p1.1.1, p2.1.0, ← p2.1.1, p3.1.0, ← p3.1.1, p4.1.0, ← p4.1.1, p5.1, p6.1)))
+
+pub returns-in_err-name-2 : goal.returns-in_err-name-2
+unfolding read_session_rule
+returns-in_err-name-2 c = λ o l.
+    let p7 = c.in_err-name-2.ensures o l in
+    let p6 = c.in_ok-expect-2.ensures o p7.0 in
+    let p5 = c.if-accept-5.ensures o p6.0 in
+    let p4 = c.if-accept-4.ensures o p5.0 in
+    let p3 = c.if-accept-3.ensures o p4.0 in
+    let p2 = c.if-accept-2.ensures o p3.0 in
+    let p1 = c.if-accept.ensures o p2.0 in (
+      p1.0,
+      part_told (λ x. x) (λ x. x) c.from_residual-in_err-name-2.result c.in_err-name-2.field-0.0 (after_name (ahead c.expect-2.new.self o)) (read_session_rule (ahead c.args.cursor.now o)) (ahead c.name-2.new.self o) (ahead c.name-2.new.self o) c.from_residual-in_err-name-2.ensures p7.1
+          (λ x. rw (p1.1.0, ← p1.1.1, p2.1.0, ← p2.1.1, p3.1.0, ← p3.1.1, p4.1.0, ← p4.1.1, p5.1, p6.1, x)),
+    )
+
+pub returns-then-accept-5 : goal.returns-then-accept-5
+unfolding read_session_rule
+returns-then-accept-5 c = λ o l.
+    let p7 = c.in_ok-name-2.ensures o l in
+    let p6 = c.in_ok-expect-2.ensures o p7.0 in
+    let p5 = c.if-accept-5.ensures o p6.0 in
+    let p4 = c.if-accept-4.ensures o p5.0 in
+    let p3 = c.if-accept-3.ensures o p4.0 in
+    let p2 = c.if-accept-2.ensures o p3.0 in
+    let p1 = c.if-accept.ensures o p2.0 in
+    (p1.0, rw (p1.1.0, ← p1.1.1, p2.1.0, ← p2.1.1, p3.1.0, ← p3.1.1, p4.1.0, ← p4.1.1, p5.1, p6.1, p7.1))
+
+pub returns-in_err-expect-3 : goal.returns-in_err-expect-3
+unfolding read_session_rule
+returns-in_err-expect-3 c = λ o l.
+    let p6 = c.in_err-expect-3.ensures o l in
+    let p5 = c.if-accept-5.ensures o p6.0 in
+    let p4 = c.if-accept-4.ensures o p5.0 in
+    let p3 = c.if-accept-3.ensures o p4.0 in
+    let p2 = c.if-accept-2.ensures o p3.0 in
+    let p1 = c.if-accept.ensures o p2.0 in
+    (p1.0, word_told (λ x. x) c.from_residual-in_err-expect-3.result c.in_err-expect-3.field-0.0 (read_session_rule (ahead c.args.cursor.now o)) (ahead c.expect-3.new.self o) c.from_residual-in_err-expect-3.ensures (rw (p1.1.0, ← p1.1.1, p2.1.0, ← p2.1.1, p3.1.0, ← p3.1.1, p4.1.0, ← p4.1.1, p5.1.0, ← p5.1.1, p6.1)))
+
+pub returns : goal.returns
+unfolding read_session_rule
+returns c = λ o l.
+    let p7 = c.set_constraints.ensures o l in
+    let p6 = c.in_ok-expect-3.ensures o p7.0 in
+    let p5 = c.if-accept-5.ensures o p6.0 in
+    let p4 = c.if-accept-4.ensures o p5.0 in
+    let p3 = c.if-accept-3.ensures o p4.0 in
+    let p2 = c.if-accept-2.ensures o p3.0 in
+    let p1 = c.if-accept.ensures o p2.0 in
+    (p1.0, rw (p1.1.0, ← p1.1.1, p2.1.0, ← p2.1.1, p3.1.0, ← p3.1.1, p4.1.0, ← p4.1.1, p5.1.0, ← p5.1.1, p6.1) p7.1)

@@ -1,0 +1,45 @@
+use Rattle.iv_parse_data.specs.readers.Tables.{read_type}
+use Rattle.iv_parse_data.proofs.types.column_type.Goals as goal
+
+pub returns-then-accept : goal.returns-then-accept
+unfolding read_type
+returns-then-accept c = λ o l.
+    let p1 = c.if-accept.ensures o l in
+    (p1.0, rw (p1.1))
+
+pub returns-then-accept-2 : goal.returns-then-accept-2
+unfolding read_type
+returns-then-accept-2 c = λ o l.
+    let p2 = c.if-accept-2.ensures o l in
+    let p1 = c.if-accept.ensures o p2.0 in
+    (p1.0, rw (p1.1.0, ← p1.1.1, p2.1))
+
+pub returns-then-accept-3 : goal.returns-then-accept-3
+unfolding read_type
+returns-then-accept-3 c = λ o l.
+    let p4 = c.length.ensures o l in
+    let p3 = c.if-accept-3.ensures o p4.0 in
+    let p2 = c.if-accept-2.ensures o p3.0 in
+    let p1 = c.if-accept.ensures o p2.0 in
+    (p1.0, rw (p1.1.0, ← p1.1.1, p2.1.0, ← p2.1.1, p3.1) p4.1)
+
+pub returns-then-accept-4 : goal.returns-then-accept-4
+unfolding read_type
+returns-then-accept-4 c = λ o l.
+    let p5 = c.varying.ensures o l in
+    let p4 = c.if-accept-4.ensures o p5.0 in
+    let p3 = c.if-accept-3.ensures o p4.0 in
+    let p2 = c.if-accept-2.ensures o p3.0 in
+    let p1 = c.if-accept.ensures o p2.0 in
+    (p1.0, rw (p1.1.0, ← p1.1.1, p2.1.0, ← p2.1.1, p3.1.0, ← p3.1.1, p4.1) p5.1)
+
+pub returns : goal.returns
+unfolding read_type
+returns c = λ o l.
+    let p6 = c.varying-2.ensures o l in
+    let p5 = c.in_ok-expect.ensures o p6.0 in
+    let p4 = c.if-accept-4.ensures o p5.0 in
+    let p3 = c.if-accept-3.ensures o p4.0 in
+    let p2 = c.if-accept-2.ensures o p3.0 in
+    let p1 = c.if-accept.ensures o p2.0 in
+    (p1.0, rw (p1.1.0, ← p1.1.1, p2.1.0, ← p2.1.1, p3.1.0, ← p3.1.1, p4.1.0, ← p4.1.1, p5.1) p6.1)
