@@ -5,8 +5,7 @@ use Rattle.iv_lex.specs.declared.kind.TokenKind.{TokenKind}
 use Rattle.iv_lex.specs.declared.kind.TokenKind.TheVariants as kind
 use Rattle.iv_lex.specs.Words.{Word, name, number, quoted, plain}
 use Rattle.iv_parse_terms.specs.After.{after, after_name, after_number, after_quoted, is_word, if_some}
-use Rattle.iv_parse_terms.specs.readers.Conditions.{after_comparison}
-use Rattle.iv_parse_terms.specs.Reading.{At, Other, Like, ahead, word_is, name_in, number_in, quoted_in, comparison_in, looked, passed, after_both, Peeks, Tries, TriesPart}
+use Rattle.iv_parse_terms.specs.Reading.{At, Other, Like, ahead, word_is, name_in, number_in, quoted_in, looked, passed, after_both, Peeks, Tries, TriesPart}
 
 abbrev first_or : Word → List Word → Word
 first_or d [] = d
@@ -209,13 +208,3 @@ pub back : (c a b n : At) (k j : TokenKind) (p : ℕ) → p ≡ c.place → Trie
     → n ≡ record { words = b.words; place = p; furthest = b.furthest } → Tries (after_both k j) c false n
 back c a b n k j p e first second stays =
     subst (λ x. Tries (after_both k j) c false x) (sym (stays ∙ ap (λ q. record { words = b.words; place = q; furthest = b.furthest }) e)) (by_both c a b k j first second)
-
-pub one_comparison : (ws : List Word) → after_comparison ws ≡ one comparison_in ws
-one_comparison [] = refl
-one_comparison (plain kind.Equals ∷ ws) = refl
-one_comparison (plain kind.NotEquals ∷ ws) = refl
-one_comparison (plain kind.Less ∷ ws) = refl
-one_comparison (plain kind.LessEquals ∷ ws) = refl
-one_comparison (plain kind.Greater ∷ ws) = refl
-one_comparison (plain kind.GreaterEquals ∷ ws) = refl
-one_comparison (w ∷ ws) = refl

@@ -123,7 +123,7 @@ on_expected t k f c m n u r a h o l =
     let q = a o p.0 in
     (q.0, subst (λ x. GivesAs t (if_some x f None) r (ahead n o)) (sym q.1) p.1)
 
-not_there : {A : Type 0} (e : Stop) (found : Option A) → found ≡ None → StopsAt e found
+pub not_there : {A : Type 0} (e : Stop) (found : Option A) → found ≡ None → StopsAt e found
 not_there NoMatch found h = h
 not_there TooDeep found h = h
 not_there NoMemory found h = tt
@@ -133,3 +133,13 @@ pub expected_told : {A B : Type 0} (t : B → A) (k : List Word → Option (List
 expected_told t k f c n r e g i o l =
     let q = g o l in
     (q.0, told t r e (if_some (k (ahead c o)) f None) (ahead n o) i (not_there e (if_some (k (ahead c o)) f None) (ap (λ y. if_some y f None) q.1)))
+
+-- ---- by one chain of equations: a word isn't there, or a part stops
+
+pub word_told : {A B : Type 0} (t : B → A) (r : Result B Stop) (e : Stop) (whole : Option (A × List Word)) (rest : List Word)
+    → IsErr r × IsErrAnd r (λ y. y ≡ e) → whole ≡ None → GivesAs t whole r rest
+word_told t r e whole rest i n = told t r e whole rest i (not_there e whole n)
+
+pub part_told : {A B C D : Type 0} (s : D → C) (t : B → A) (r : Result B Stop) (e : Stop) (part : Option (C × List Word)) (whole : Option (A × List Word)) (middle rest : List Word)
+    → IsErr r × IsErrAnd r (λ y. y ≡ e) → GivesAs s part (Err e) middle → (part ≡ None → whole ≡ None) → GivesAs t whole r rest
+part_told s t r e part whole middle rest i g f = told t r e whole rest i (stop_in e part whole f (stopped s e part middle g))

@@ -3,8 +3,6 @@ use Rattle.std.specs.Prelude.{◌≡◌, ◌≤◌, ℕ, suc, ◌+◌, max, Bool
 use Rattle.iv_lex.specs.declared.kind.TokenKind.{TokenKind}
 use Rattle.iv_lex.specs.declared.kind.TokenKind.TheVariants as kind
 use Rattle.iv_lex.specs.Words.{Word, name, number, quoted, plain}
-use Rattle.iv_parse_terms.specs.Types.{Comparison}
-use Rattle.iv_parse_terms.specs.Types.comparison
 use Rattle.iv_parse_terms.specs.After.{is_word, after, if_some}
 use Rattle.iv_parse_terms.specs.declared.stop.Stop.{Stop}
 use Rattle.iv_parse_terms.specs.declared.stop.Stop.TheVariants.{NoMatch, TooDeep, NoMemory}
@@ -126,15 +124,6 @@ number_in (number n) = Some n
 number_in (name n) = None
 number_in (quoted t) = None
 number_in (plain k) = None
-
-abbrev pub comparison_in : Word → Option Comparison
-comparison_in (plain kind.Equals) = Some comparison.Equal
-comparison_in (plain kind.NotEquals) = Some comparison.NotEqual
-comparison_in (plain kind.Less) = Some comparison.Less
-comparison_in (plain kind.LessEquals) = Some comparison.LessEqual
-comparison_in (plain kind.Greater) = Some comparison.Greater
-comparison_in (plain kind.GreaterEquals) = Some comparison.GreaterEqual
-comparison_in _ = None
 
 -- the word at the place was looked at
 abbrev pub looked : At → At

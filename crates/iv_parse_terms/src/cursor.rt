@@ -4,11 +4,11 @@ ghost use Rattle.iv_lex.specs.Words.{words};
 ghost use Rattle.iv_parse_terms.specs.After.{after, after_name, after_number, after_quoted, is_plain};
 ghost use Rattle.iv_parse_terms.specs.readers.Expressions.{after_sign};
 ghost use Rattle.iv_parse_terms.specs.readers.Conditions.{after_comparison};
-ghost use Rattle.iv_parse_terms.specs.Reading.{Expects, Follows, Peeks, Reads, Tries, TriesPart, TriesUnlessMemory, after_both, comparison_in, looked, name_in, number_in, passed, quoted_in, word_is};
+ghost use Rattle.iv_parse_terms.specs.Reading.{Expects, Follows, Peeks, Reads, Tries, TriesPart, TriesUnlessMemory, after_both, looked, name_in, number_in, passed, quoted_in, word_is};
 
 use crate::stop::Stop;
 use crate::wanted::Wanted;
-use crate::word::{comparison_of, name_of, number_of, quoted_of, token_is};
+use crate::word::{name_of, number_of, quoted_of, token_is};
 use iv_expr::Comparison;
 use iv_lex::{Token, TokenKind};
 use iv_syntax::{Name, Sign};
@@ -151,17 +151,6 @@ impl<'a> Cursor<'a> {
     {
         match token_at(self.tokens, self.place) {
             Some(token) => number_of(token),
-            None => None,
-        }
-    }
-
-    // The comparison at the place.
-    fn comparison_here(&self) -> Option<Comparison>
-        ensures found { result ≡ option_and_then comparison_in (slice_get self.now.words self.now.place) }
-        ensures few { length self.now.words ≤ usize.MAX }
-    {
-        match token_at(self.tokens, self.place) {
-            Some(token) => comparison_of(token),
             None => None,
         }
     }
@@ -316,25 +305,25 @@ impl<'a> Cursor<'a> {
     pub fn accept_comparison(&mut self) -> Option<Comparison>
         ensures { TriesPart after_comparison self.old result self.new }
     {
-        self.look();
-        let Some(comparison) = self.comparison_here() else {
-            self.miss_comparison();
-            return None;
-        };
-        self.pass();
-        Some(comparison)
-    }
-
-    // Notes that no comparison is at the place.
-    fn miss_comparison(&mut self)
-        ensures { self.new ≡ self.old }
-    {
-        self.miss(TokenKind::Equals);
-        self.miss(TokenKind::NotEquals);
-        self.miss(TokenKind::Less);
-        self.miss(TokenKind::LessEquals);
-        self.miss(TokenKind::Greater);
-        self.miss(TokenKind::GreaterEquals);
+        if self.accept(TokenKind::Equals) {
+            return Some(Comparison::Equal);
+        }
+        if self.accept(TokenKind::NotEquals) {
+            return Some(Comparison::NotEqual);
+        }
+        if self.accept(TokenKind::Less) {
+            return Some(Comparison::Less);
+        }
+        if self.accept(TokenKind::LessEquals) {
+            return Some(Comparison::LessEqual);
+        }
+        if self.accept(TokenKind::Greater) {
+            return Some(Comparison::Greater);
+        }
+        if self.accept(TokenKind::GreaterEquals) {
+            return Some(Comparison::GreaterEqual);
+        }
+        None
     }
 
     /// Goes past a sign, where one is next.

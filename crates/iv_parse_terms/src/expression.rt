@@ -1,13 +1,13 @@
 //! Expressions, read from words.
-ghost use Rattle.std.specs.Prelude.{◌≡◌, ◌+◌, ◌≤◌, max, MatchOption};
-ghost use Rattle.iv_syntax.specs.Trees.{group, signed, product, sum, depth as depth_of};
-ghost use Rattle.iv_parse_terms.specs.readers.Expressions.{column_tree, null_or_column, simple as simple_at, close_group, fits, signed_from, more_factors, more_terms, read_primary, read_factor, read_term, read_expression as read};
+ghost use Rattle.std.specs.Prelude.{◌≡◌, ◌≤◌};
+ghost use Rattle.iv_syntax.specs.Trees.{group, signed, depth as depth_of};
+ghost use Rattle.iv_parse_terms.specs.readers.Expressions.{column_tree, joined, null_or_column, simple as simple_at, close_group, fits, signed_from, more_factors, more_terms, read_primary, read_factor, read_term, read_expression as read};
 ghost use Rattle.iv_parse_terms.specs.Reading.{MakesAs, Reads, ReadsAs};
 ghost use Rattle.iv_parse_terms.specs.Seen.{tree_in};
 
 use crate::cursor::Cursor;
 use crate::expression_part::ExpressionPart;
-use crate::make::{group_of, product_of, signed_of, sum_of};
+use crate::make::{group_of, joined_of, signed_of};
 use crate::stop::Stop;
 use iv_lex::TokenKind;
 use iv_syntax::{ColumnName, DEEPEST_TREE, Expression, Name, Sign};
@@ -49,57 +49,28 @@ fn make_signed(
     })
 }
 
-// Two operands and the depth of what joins them, where it is not too deep.
-fn fitting(
+fn make_joined(
+    alloc: Global,
     limit: u8,
+    sign: Option<Sign>,
     left: ExpressionPart,
     right: ExpressionPart,
-) -> Option<(Expression, Expression, u8)>
-    ensures { MatchOption result
-        (limit ≤ max (depth_of left.tree) (depth_of right.tree))
-        (λ p. (p.0 ≡ left.tree) × (p.1 ≡ right.tree)
-        × (p.2 ≡ 1 + max (depth_of left.tree) (depth_of right.tree)) × (p.2 ≤ limit)) }
+) -> Result<ExpressionPart, Stop>
+    ensures { MakesAs tree_in (fits limit (joined sign left.tree right.tree)) result }
 {
     let below = left.depth.max(right.depth);
     if below >= limit {
         drop(left);
         drop(right);
-        return None;
+        return Err(Stop::TooDeep);
     }
     let (left, _) = left.into_parts();
     let (right, _) = right.into_parts();
-    Some((left, right, below + 1))
-}
-
-fn make_product(
-    alloc: Global,
-    limit: u8,
-    left: ExpressionPart,
-    right: ExpressionPart,
-) -> Result<ExpressionPart, Stop>
-    ensures { MakesAs tree_in (fits limit (product left.tree right.tree)) result }
-{
-    let Some((left, right, depth)) = fitting(limit, left, right) else {
-        return Err(Stop::TooDeep);
-    };
-    let tree = product_of(alloc, left, right)?;
-    Ok(ExpressionPart { tree, depth })
-}
-
-fn make_sum(
-    alloc: Global,
-    limit: u8,
-    sign: Sign,
-    left: ExpressionPart,
-    right: ExpressionPart,
-) -> Result<ExpressionPart, Stop>
-    ensures { MakesAs tree_in (fits limit (sum sign left.tree right.tree)) result }
-{
-    let Some((left, right, depth)) = fitting(limit, left, right) else {
-        return Err(Stop::TooDeep);
-    };
-    let tree = sum_of(alloc, sign, left, right)?;
-    Ok(ExpressionPart { tree, depth })
+    let tree = joined_of(alloc, sign, left, right)?;
+    Ok(ExpressionPart {
+        tree,
+        depth: below + 1,
+    })
 }
 
 fn leaf(tree: Expression) -> ExpressionPart
@@ -199,7 +170,7 @@ pub fn factors(
         return Err(Stop::TooDeep);
     }
     let right = factor(&mut *cursor, limit)?;
-    let both = make_product(cursor.alloc(), limit, left, right)?;
+    let both = make_joined(cursor.alloc(), limit, None, left, right)?;
     factors(&mut *cursor, limit, most - 1, both)
 }
 
@@ -233,7 +204,7 @@ pub fn terms(
         return Err(Stop::TooDeep);
     }
     let right = term(&mut *cursor, limit)?;
-    let both = make_sum(cursor.alloc(), limit, sign, left, right)?;
+    let both = make_joined(cursor.alloc(), limit, Some(sign), left, right)?;
     terms(&mut *cursor, limit, most - 1, both)
 }
 

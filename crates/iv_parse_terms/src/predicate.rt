@@ -2,7 +2,7 @@
 ghost use Rattle.std.specs.Prelude.{◌≡◌, ◌+◌, ◌≤◌, None};
 ghost use Rattle.iv_parse_terms.specs.declared.item.Item.TheVariants.{Value};
 ghost use Rattle.iv_syntax.specs.Trees.{condition_depth};
-ghost use Rattle.iv_parse_terms.specs.readers.Conditions.{condition_fits, on_value, enclose as enclosed_item, close_item as closed_item, null_test, comparison_from, predicate_from, value_test, negate as negated_item, after_truth, connection, connection_from, truth_alone};
+ghost use Rattle.iv_parse_terms.specs.readers.Conditions.{condition_fits, on_value, enclose as enclosed_item, close_item as closed_item, null_test, comparison_from, predicate_from, value_test, negate as negated_item, after_truth, connection_from, truth_alone};
 ghost use Rattle.iv_parse_terms.specs.Reading.{MakesAs, ReadsAs, Tries};
 ghost use Rattle.iv_parse_terms.specs.SeenItem.{condition_in, item_in};
 
@@ -183,23 +183,6 @@ pub fn truth(found: ItemPart) -> Result<ConditionPart, Stop>
     }
 }
 
-fn connect(
-    alloc: Global,
-    limit: u8,
-    connective: Connective,
-    left: ConditionPart,
-    right: ConditionPart,
-) -> Result<ItemPart, Stop>
-    ensures { MakesAs item_in (condition_fits limit (connection connective left.tree right.tree))
-        result }
-{
-    let (left, first) = left.into_parts();
-    let (right, second) = right.into_parts();
-    let below = first.max(second);
-    let tree = connected_of(alloc, connective, left, right)?;
-    fit(limit, tree, below)
-}
-
 /// Two conditions with AND or OR between them.
 pub fn join(
     alloc: Global,
@@ -212,5 +195,9 @@ pub fn join(
 {
     let left = truth(left)?;
     let right = truth(right)?;
-    connect(alloc, limit, connective, left, right)
+    let (left, first) = left.into_parts();
+    let (right, second) = right.into_parts();
+    let below = first.max(second);
+    let tree = connected_of(alloc, connective, left, right)?;
+    fit(limit, tree, below)
 }

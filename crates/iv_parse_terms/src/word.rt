@@ -2,9 +2,8 @@
 ghost use Rattle.std.specs.Prelude.{◌≡◌, ℕ, List, true, IfOk};
 ghost use Rattle.iv_lex.specs.Words.{word_of};
 ghost use Rattle.iv_parse_terms.specs.After.{is_plain, is_word};
-ghost use Rattle.iv_parse_terms.specs.Reading.{name_in, quoted_in, number_in, comparison_in};
+ghost use Rattle.iv_parse_terms.specs.Reading.{name_in, quoted_in, number_in};
 
-use iv_expr::Comparison;
 use iv_lex::{Token, TokenKind, folded_text, unquoted_text};
 use iv_syntax::Name;
 use iv_value::Text;
@@ -47,21 +46,6 @@ pub fn number_of(token: Token) -> Option<u64>
 {
     match token.kind {
         TokenKind::Number(number) => Some(number),
-        _ => None,
-    }
-}
-
-/// The comparison that the token is.
-pub fn comparison_of(token: Token) -> Option<Comparison>
-    ensures { (text : List ℕ) → result ≡ comparison_in (word_of text token) }
-{
-    match token.kind {
-        TokenKind::Equals => Some(Comparison::Equal),
-        TokenKind::NotEquals => Some(Comparison::NotEqual),
-        TokenKind::Less => Some(Comparison::Less),
-        TokenKind::LessEquals => Some(Comparison::LessEqual),
-        TokenKind::Greater => Some(Comparison::Greater),
-        TokenKind::GreaterEquals => Some(Comparison::GreaterEqual),
         _ => None,
     }
 }
