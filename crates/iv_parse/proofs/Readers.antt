@@ -10,6 +10,7 @@ use Rattle.iv_parse.specs.Types.statement
 use Rattle.iv_parse_terms.specs.After.{after, if_some, then_read}
 use Rattle.iv_parse_terms.specs.Reading.{Found}
 use Rattle.iv_parse_data.specs.readers.Series.{skip}
+use Rattle.iv_parse_data.specs.readers.Tables.{read_create_table}
 use Rattle.iv_parse_data.specs.readers.Data.{FoundPart, then_word, read_name, read_insert, read_update, read_delete, read_select}
 use Rattle.std.specs.Prelude.{ℕ, None, [], ◌∷◌}
 use Rattle.iv_parse.specs.Types.{ActionTime, TriggerEvent, Granularity, TriggerAction, TriggerDefinition}
@@ -20,7 +21,7 @@ use Rattle.iv_parse_data.specs.readers.Series.{read_all}
 use Rattle.iv_parse_data.specs.readers.Data.{read_shallow}
 use Rattle.iv_parse_data.proofs.Readers.{read_quoted}
 use Rattle.iv_parse.specs.readers.Statements.{read_set}
-use Rattle.iv_parse.specs.readers.Triggers.{read_action, read_body, read_ended_action, read_middle, read_set_action, read_update_columns, some_actions, trigger_of}
+use Rattle.iv_parse.specs.readers.Triggers.{read_action, read_body, read_ended_action, read_middle, read_set_action, read_update_columns, some_actions, trigger_of, read_trigger}
 
 abbrev pub read_drop : List Word → FoundPart Statement
 read_drop ws = then_word kind.Trigger ws (λ rest. then_read (read_name rest) (λ n more. Some (DropTrigger n, more)))
@@ -63,6 +64,11 @@ read_delete_rule ws = then_read (read_delete ws) (λ d rest. Some (statement.Del
 
 abbrev pub read_select_rule : List Word → FoundPart Statement
 read_select_rule ws = then_read (read_select ws) (λ s rest. Some (statement.Select s, rest))
+
+-- after CREATE
+abbrev pub read_create : List Word → FoundPart Statement
+read_create ws =
+    if_some (after kind.Table ws) read_create_table (then_word kind.Trigger ws (λ rest. then_read (read_trigger rest) (λ t more. Some (statement.CreateTrigger t, more))))
 
 -- after FOR EACH
 abbrev pub read_each : List Word → FoundPart Granularity

@@ -14,7 +14,7 @@ use Rattle.iv_syntax.specs.declared.statement.Insert.TheVariants as insert
 use Rattle.iv_syntax.specs.declared.statement.Insert.{Insert}
 use Rattle.iv_parse_terms.specs.After.{after, if_some, then_read, same}
 use Rattle.iv_parse_data.specs.Series.{Maybe, Optional}
-use Rattle.iv_parse_data.specs.readers.Series.{read_sequence, skip}
+use Rattle.iv_parse_data.specs.readers.Series.{read_all, read_sequence, skip}
 use Rattle.iv_parse_data.specs.Data.{IsInsert}
 use Rattle.iv_parse_data.specs.readers.Data.{then_word, read_name, read_check}
 use Rattle.iv_parse_data.specs.readers.Items.{read_transition, read_referencing_item_of, read_referencing_item}
@@ -76,7 +76,7 @@ no_item ws h i =
 
 referencing_reads : (rs : List Referencing) (front rest : List Word) → IsReferencing front rs → after kind.Referencing rest ≡ None → after kind.Old rest ≡ None → after kind.New rest ≡ None
     → read_referencing (front ++ rest) ≡ Some (rs, rest)
-unfolding read_referencing
+unfolding read_referencing read_all
 referencing_reads [] front rest p e h i =
     ap (λ z. read_referencing (z ++ rest)) p
     ∙ ap (λ o. if_some o (λ more. then_read (read_sequence read_referencing_item (length more) more) some_items) (Some ([], rest))) e
@@ -183,7 +183,7 @@ single_reads a front rest p e =
     ∙ ap (λ o. then_read o (λ a more. Some (a ∷ [], more))) (action_reads a front rest p e)
 
 body_reads : (xs : List TriggerAction) (front rest : List Word) → IsBody front xs → EndsStatement rest → read_body (front ++ rest) ≡ Some (xs, rest)
-unfolding read_body
+unfolding read_body read_all
 body_reads [] front rest (inl p) e = absurd p
 body_reads (a ∷ []) front rest (inl p) e = single_reads a front rest p e
 body_reads (a ∷ b ∷ xs) front rest (inl p) e = absurd p

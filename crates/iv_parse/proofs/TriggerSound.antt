@@ -11,7 +11,7 @@ use Rattle.iv_parse.specs.Types.transition
 use Rattle.iv_parse.specs.Types.action
 use Rattle.iv_parse_terms.specs.After.{after, if_some, then_read}
 use Rattle.iv_parse_data.specs.Series.{Sequence, Maybe, InParentheses, Optional}
-use Rattle.iv_parse_data.specs.readers.Series.{read_series, read_sequence}
+use Rattle.iv_parse_data.specs.readers.Series.{read_all, read_series, read_sequence}
 use Rattle.iv_parse_data.specs.Data.{Names, IsShallow, IsShallowCondition, IsInsert, IsUpdate, IsDelete}
 use Rattle.iv_parse_data.specs.readers.Data.{read_name, read_shallow, read_check, read_insert, read_update, read_delete}
 use Rattle.iv_parse_data.specs.readers.Items.{read_transition, read_referencing_item_of, read_referencing_item}
@@ -48,7 +48,7 @@ some_items_good front ws [] p = nothing_good _ ws
 some_items_good front ws (r ∷ rs) p = done_good _ ws (r ∷ rs) (front, p, ap (λ z. plain kind.Referencing ∷ z) (append-nil front))
 
 referencing_good : (ws : List Word) → Good IsReferencing ws (read_referencing ws)
-unfolding read_referencing
+unfolding read_referencing read_all
 referencing_good ws =
     after_good IsReferencing kind.Referencing ws _ _
     (λ rest. then_good (Sequence IsItem) _ rest (read_sequence read_referencing_item (length rest) rest) some_items (sequence_good IsItem read_referencing_item item_good (length rest) rest)
@@ -119,6 +119,7 @@ some_actions_good front ws [] p = nothing_good _ ws
 some_actions_good front ws (x ∷ xs) p = after_good _ kind.End ws _ None (λ rest. done_good _ rest (x ∷ xs) (inr (front, p, refl))) (nothing_good _ ws)
 
 block_good : (ws : List Word) → Good (λ back xs. IsBody (plain kind.Begin ∷ back) xs) ws (read_block ws)
+unfolding read_all
 block_good ws =
     after_good _ kind.Atomic ws _ None
     (λ rest. then_good (Sequence IsEndedAction) _ rest (read_sequence read_ended_action (length rest) rest) some_actions (sequence_good IsEndedAction read_ended_action ended_action_good (length rest) rest)

@@ -1,6 +1,6 @@
 //! Statements.
 ghost use Rattle.iv_parse_terms.specs.Reading.{Reads};
-ghost use Rattle.iv_parse.specs.readers.Statements.{read_create, read_definition_rule, read_rule, read_statement};
+ghost use Rattle.iv_parse.specs.readers.Statements.{read_definition_rule, read_rule, read_statement};
 
 use crate::session::session_statement;
 use crate::trigger::create_trigger;
@@ -9,25 +9,18 @@ use iv_parse_data::{alter_table, create_table, delete, insert, select, update};
 use iv_parse_terms::{Cursor, Stop};
 use iv_syntax::Statement;
 
-#[tactic(auto, unfolding(crate::specs::readers::Statements::read_create))]
-fn create(cursor: &mut Cursor<'_>) -> Result<Statement, Stop>
-    ensures { Reads read_create cursor.old result cursor.new }
-{
-    if cursor.accept(TokenKind::Table) {
-        return create_table(cursor);
-    }
-    cursor.expect(TokenKind::Trigger)?;
-    let trigger = create_trigger(cursor)?;
-    Ok(Statement::CreateTrigger(trigger))
-}
-
 // A statement that is none about data.
 #[tactic(auto, unfolding(crate::specs::readers::Statements::read_definition_rule))]
 fn definition(cursor: &mut Cursor<'_>) -> Result<Statement, Stop>
     ensures { Reads read_definition_rule cursor.old result cursor.new }
 {
     if cursor.accept(TokenKind::Create) {
-        return create(cursor);
+        if cursor.accept(TokenKind::Table) {
+            return create_table(cursor);
+        }
+        cursor.expect(TokenKind::Trigger)?;
+        let trigger = create_trigger(cursor)?;
+        return Ok(Statement::CreateTrigger(trigger));
     }
     if cursor.accept(TokenKind::Alter) {
         return alter_table(cursor);

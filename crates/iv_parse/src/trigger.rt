@@ -5,7 +5,7 @@ ghost use Rattle.iv_parse.specs.readers.Triggers.{some_items, read_referencing, 
 
 use crate::action::body;
 use iv_lex::TokenKind;
-use iv_parse_data::{enclosed_condition, sequence, series};
+use iv_parse_data::{enclosed, sequence, series};
 use iv_parse_terms::{Cursor, Stop};
 use iv_syntax::{
     ActionTime, Condition, Granularity, Name, Referencing, TriggerAction, TriggerDefinition,
@@ -54,7 +54,7 @@ fn when(cursor: &mut Cursor<'_>) -> Result<Option<Condition>, Stop>
     ensures { Reads read_when cursor.old result cursor.new }
 {
     if cursor.accept(TokenKind::When) {
-        let condition = enclosed_condition(cursor)?;
+        let condition = enclosed::<Condition>(cursor)?;
         return Ok(Some(condition));
     }
     Ok(None)

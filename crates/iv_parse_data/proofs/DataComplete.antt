@@ -71,7 +71,6 @@ unfolding read_shallow_condition
 condition_reads = record { reads = λ c front rest p ends. condition_complete front rest c p.0 p.1 ends }
 
 pub check_complete : Reads_all (InParentheses IsShallowCondition) Anything read_check
-unfolding read_check
 check_complete = enclosed_complete IsShallowCondition EndsCondition read_shallow_condition condition_reads (λ ws. (((((refl, refl), refl, refl), refl), refl)))
 
 value_reads : (v : ValueOrDefault) (front rest : List Word) → IsValue front v → EndsExpression rest → read_value (front ++ rest) ≡ Some (v, rest)
@@ -92,7 +91,6 @@ close_ends : (ws : List Word) → EndsExpression (plain kind.RightParenthesis �
 close_ends ws = ((refl, refl), refl, refl)
 
 pub tuple_complete : Reads_all IsTuple Anything read_tuple
-unfolding read_tuple
 tuple_complete =
     enclosed_complete (Series IsValue) (λ rest. EndsExpression rest × (after kind.Comma rest ≡ None)) (read_series read_value)
     (series_complete IsValue EndsExpression read_value value_complete comma_ends) (λ ws. (close_ends ws, refl))

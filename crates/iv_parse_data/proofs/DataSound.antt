@@ -34,7 +34,6 @@ condition_good ws = record {
 }
 
 pub check_good : (ws : List Word) → Good (InParentheses IsShallowCondition) ws (read_check ws)
-unfolding read_check
 check_good ws = enclosed_good IsShallowCondition read_shallow_condition condition_good ws
 
 pub value_good : (ws : List Word) → Good IsValue ws (read_value ws)
@@ -45,7 +44,6 @@ value_good ws =
     (made_good IsShallow IsValue ws (read_shallow ws) Value (shallow_good ws) (λ e front p. p))
 
 pub tuple_good : (ws : List Word) → Good IsTuple ws (read_tuple ws)
-unfolding read_tuple
 tuple_good ws = enclosed_good (Series IsValue) (read_series read_value) (λ vs. series_good IsValue read_value value_good vs) ws
 
 pub column_list_good : (ws : List Word) → Good IsColumnList ws (read_column_list ws)

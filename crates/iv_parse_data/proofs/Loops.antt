@@ -69,6 +69,7 @@ module _ {A : Type 0} where
 
   pub begun : (part : List Word → Option (A × List Word)) (start c : At) (a : A) (old items : List A) → old ≡ [] → items ≡ old ++ a ∷ []
       → Reads part start (Ok a) c → Along part start items c
+  unfolding read_series
   begun part start c a old items d e h o l =
       let p = h o l in
       let rest = ahead c o in (
@@ -161,6 +162,7 @@ module _ {A : Type 0} where
   all_preceded (Some p) = refl
 
   pub amid_start : (part : List Word → Option (Option A × List Word)) (start : At) (items : List A) → items ≡ [] → Amid part start items start
+  unfolding read_all
   amid_start part start items e o l = (
     l,
     record {

@@ -18,7 +18,7 @@ use Rattle.iv_parse_data.specs.Types.element.{Column, Constraint}
 use Rattle.iv_parse_terms.specs.After.{after, after_name, if_some, then_read, same}
 use Rattle.iv_parse_terms.specs.Expressions.{sign_kind}
 use Rattle.iv_parse_data.specs.Series.{Series, Sequence, Maybe, InParentheses}
-use Rattle.iv_parse_data.specs.readers.Series.{read_optional, read_series}
+use Rattle.iv_parse_data.specs.readers.Series.{read_all, read_optional, read_series}
 use Rattle.iv_parse_data.specs.Data.{Names}
 use Rattle.iv_parse_data.specs.readers.Data.{then_word, read_name}
 use Rattle.iv_parse_data.specs.Tables.{mode_kind, IsVarchar, IsType, IsLiteral, IsDefault, IsConstraintName, IsDeferrable, IsInitially, IsTime, match_kind, IsMatch, action_words, IsOn, AreActions, IsReferences, null_words, IsColumnRule, IsColumnConstraint, IsTableRule, IsTableConstraint, IsElement}
@@ -313,7 +313,7 @@ constraints_default (c ∷ cs) front rest (f, g, (called, rule, time, p, q, s, v
 
 column_reads : (c : ColumnDefinition) (type default constraints rest : List Word) → IsType type c.kind → Maybe IsDefault default c.default → Sequence IsColumnConstraint constraints c.constraints → EndsElement rest
     → read_column c.name (type ++ (default ++ (constraints ++ rest))) ≡ Some (c, rest)
-unfolding read_column read_column_constraints
+unfolding read_column read_all
 column_reads c type default constraints rest p q s e =
     ap (λ o. then_read o (λ k left. then_read (read_default left) (λ d more. then_read (read_column_constraints more)
     (λ cs last. Some (record { name = c.name; kind = k; default = d; constraints = cs }, last)))))
@@ -325,7 +325,6 @@ column_reads c type default constraints rest p q s e =
     (sequence_complete IsColumnConstraint EndsConstraint read_column_constraint constraint_parts c.constraints constraints rest s (element_ends rest e) (no_constraint rest e))
 
 key_complete : Reads_all (InParentheses Names) Anything read_key
-unfolding read_key
 key_complete = enclosed_complete Names (λ rest. Anything rest × (after kind.Comma rest ≡ None)) (read_series read_name) names_complete (λ ws. (tt, refl))
 
 -- a list of names doesn't begin with NULLS
@@ -397,7 +396,6 @@ element_reads (Constraint c) front rest p e =
     ∙ ap (λ o. then_read o (λ c left. Some (Constraint c, left))) (table_constraint_reads c front rest p (element_ends rest e))
 
 pub elements_complete : Reads_all (InParentheses (Series IsElement)) Anything read_elements
-unfolding read_elements
 elements_complete =
     enclosed_complete (Series IsElement) (λ rest. EndsElement rest × (after kind.Comma rest ≡ None)) (read_series read_element)
     (series_complete IsElement EndsElement read_element (record { reads = element_reads }) comma) (λ ws. (closes ws, refl))

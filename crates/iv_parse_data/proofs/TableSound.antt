@@ -16,15 +16,15 @@ use Rattle.iv_parse_data.specs.Types.element.{Column, Constraint}
 use Rattle.iv_parse_terms.specs.Expressions.{sign_kind}
 use Rattle.iv_parse_terms.specs.readers.Expressions.{after_sign}
 use Rattle.iv_parse_data.specs.Series.{Series, Sequence, Maybe, InParentheses, InEitherOrder}
-use Rattle.iv_parse_data.specs.readers.Series.{read_optional, read_series, read_either_order}
+use Rattle.iv_parse_data.specs.readers.Series.{read_all, read_optional, read_series, read_either_order}
 use Rattle.iv_parse_data.specs.Data.{IsName, Names, IsColumnList, IsShallowCondition}
 use Rattle.iv_parse_data.specs.readers.Data.{read_name, read_column_list, read_check}
 use Rattle.iv_parse_data.specs.Tables.{mode_kind, IsVarchar, IsType, IsLiteral, IsDefault, IsConstraintName, IsDeferrable, IsInitially, IsTime, match_kind, IsMatch, action_words, IsOn, AreActions, IsReferences, null_words, IsColumnRule, IsColumnConstraint, IsColumn, IsTableRule, IsTableConstraint, IsElement}
-use Rattle.iv_parse_data.specs.readers.Tables.{read_length, read_varying, read_type, read_literal, read_default, read_constraint_name, read_deferrable, read_mode, read_initially, read_time, read_match_type, read_match, read_referential_action, read_on, read_actions, read_references, read_null_treatment, read_column_rule, column_constraint_of, read_column_constraint, read_column_constraints, read_column, read_key, read_foreign_key, read_table_rule, read_table_constraint, read_element, read_elements}
+use Rattle.iv_parse_data.specs.readers.Tables.{read_length, read_type, read_literal, read_default, read_constraint_name, read_deferrable, read_mode, read_initially, read_time, read_match_type, read_match, read_referential_action, read_on, read_actions, read_references, read_null_treatment, read_column_rule, column_constraint_of, read_column_constraint, read_column_constraints, read_column, read_key, read_foreign_key, read_table_rule, read_table_constraint, read_element, read_elements}
 use Rattle.iv_parse_data.proofs.Fronts.{Good, nothing_good, done_good, after_good, name_good, then_good, made_good, series_good, enclosed_good, ahead_good}
 use Rattle.iv_parse_data.proofs.OptionalSound.{IsNumber, IsQuoted, IsSign, number_good, quoted_good, sign_good, found_good, sequence_good, either_order_good}
 use Rattle.iv_parse_data.proofs.DataSound.{one_name_good, names_good, column_list_good, check_good}
-use Rattle.iv_parse_data.proofs.Readers.{read_number, read_quoted, read_varchar, read_set_action, read_strict_action, read_reference_columns, read_null_rule, read_primary_rule, read_unique_column, read_plain_rule, read_condition_rule, read_primary_key, read_check_rule, read_unique_key, read_unique_rule, read_column_element}
+use Rattle.iv_parse_data.proofs.Readers.{read_varying, read_number, read_quoted, read_varchar, read_set_action, read_strict_action, read_reference_columns, read_null_rule, read_primary_rule, read_unique_column, read_plain_rule, read_condition_rule, read_primary_key, read_check_rule, read_unique_key, read_unique_rule, read_column_element}
 
 length_good : (head : List Word) → IsVarchar head → (ws : List Word) → Good (λ back t. IsType (head ++ back) t) ws (read_length ws)
 unfolding read_length
@@ -203,7 +203,7 @@ column_constraint_good ws =
     (λ r rule more q. column_constraint_of_good called rule more n r p q))
 
 column_constraints_good : (ws : List Word) → Good (Sequence IsColumnConstraint) ws (read_column_constraints ws)
-unfolding read_column_constraints
+unfolding read_all
 column_constraints_good ws = sequence_good IsColumnConstraint read_column_constraint column_constraint_good (length ws) ws
 
 column_good : (n : List ℕ) (ws : List Word) → Good (λ back c. IsColumn (name n ∷ back) c) ws (read_column n ws)
@@ -215,7 +215,6 @@ column_good n ws =
     (column_constraints_good more) (λ cs constraints r. (type, default, constraints, p, q, r, refl))))
 
 key_good : (ws : List Word) → Good (InParentheses Names) ws (read_key ws)
-unfolding read_key
 key_good ws = enclosed_good Names (read_series read_name) names_good ws
 
 table_rule_good : (ws : List Word) → Good IsTableRule ws (read_table_rule ws)
@@ -257,5 +256,4 @@ element_good ws =
     (made_good IsTableConstraint IsElement ws (read_table_constraint ws) Constraint (table_constraint_good ws) (λ c front p. p))
 
 pub elements_good : (ws : List Word) → Good (InParentheses (Series IsElement)) ws (read_elements ws)
-unfolding read_elements
 elements_good ws = enclosed_good (Series IsElement) (read_series read_element) (λ vs. series_good IsElement read_element element_good vs) ws

@@ -2,20 +2,18 @@
 ghost use Rattle.std.specs.Prelude.{◌≡◌, true};
 ghost use Rattle.iv_parse_terms.specs.After.{is_plain};
 ghost use Rattle.iv_parse_terms.specs.Reading.{Reads};
-ghost use Rattle.iv_parse_data.specs.readers.Tables.{read_match_type, read_referential_action, read_on, read_actions, read_references, read_null_treatment, read_column_rule, column_constraint_of, read_column_constraint, read_key, read_foreign_key, read_table_rule, read_table_constraint};
+ghost use Rattle.iv_parse_data.specs.readers.Tables.{read_match_type, read_referential_action, read_on, read_actions, read_references, read_null_treatment, read_column_rule, column_constraint_of, read_column_constraint, read_foreign_key, read_table_rule, read_table_constraint};
 
 use crate::characteristics::time;
 use crate::inserting::column_list;
 use crate::parts::{Parse, ParseSome};
-use crate::repeated::{enclosed_series, optional};
-use crate::selecting::enclosed_condition;
+use crate::repeated::{enclosed, enclosed_series, optional};
 use iv_lex::TokenKind;
 use iv_parse_terms::{Cursor, Stop};
 use iv_syntax::{
-    ColumnConstraint, ColumnRule, MatchType, Name, NullTreatment, References, ReferentialAction,
-    TableConstraint, TableRule,
+    ColumnConstraint, ColumnRule, Condition, MatchType, Name, NullTreatment, References,
+    ReferentialAction, TableConstraint, TableRule,
 };
-use sqlite_items::Items;
 
 impl Parse for MatchType {
     ghost found = { read_match_type };
@@ -122,7 +120,7 @@ fn column_rule(cursor: &mut Cursor<'_>) -> Result<Option<ColumnRule>, Stop>
         return Ok(Some(ColumnRule::References(references)));
     }
     if cursor.accept(TokenKind::Check) {
-        let condition = enclosed_condition(cursor)?;
+        let condition = enclosed::<Condition>(cursor)?;
         return Ok(Some(ColumnRule::Check(condition)));
     }
     if cursor.accept(TokenKind::Not) {
@@ -175,19 +173,12 @@ impl ParseSome for ColumnConstraint {
     }
 }
 
-#[tactic(auto, unfolding(crate::specs::readers::Tables::read_key))]
-fn key(cursor: &mut Cursor<'_>) -> Result<Items<Name>, Stop>
-    ensures { Reads read_key cursor.old result cursor.new }
-{
-    enclosed_series::<Name>(cursor)
-}
-
 #[tactic(auto, unfolding(crate::specs::readers::Tables::read_foreign_key))]
 fn foreign_key(cursor: &mut Cursor<'_>) -> Result<TableRule, Stop>
     ensures { Reads read_foreign_key cursor.old result cursor.new }
 {
     cursor.expect(TokenKind::Key)?;
-    let names = key(cursor)?;
+    let names = enclosed_series::<Name>(cursor)?;
     cursor.expect(TokenKind::References)?;
     let references = references(cursor)?;
     Ok(TableRule::ForeignKey(names, references))
@@ -199,7 +190,7 @@ fn table_rule(cursor: &mut Cursor<'_>) -> Result<TableRule, Stop>
 {
     if cursor.accept(TokenKind::Primary) {
         cursor.expect(TokenKind::Key)?;
-        let names = key(cursor)?;
+        let names = enclosed_series::<Name>(cursor)?;
         return Ok(TableRule::PrimaryKey(names));
     }
     if cursor.accept(TokenKind::Foreign) {
@@ -207,11 +198,11 @@ fn table_rule(cursor: &mut Cursor<'_>) -> Result<TableRule, Stop>
     }
     if cursor.accept(TokenKind::Unique) {
         let nulls = null_treatment(cursor)?;
-        let names = key(cursor)?;
+        let names = enclosed_series::<Name>(cursor)?;
         return Ok(TableRule::Unique(nulls, names));
     }
     cursor.expect(TokenKind::Check)?;
-    let condition = enclosed_condition(cursor)?;
+    let condition = enclosed::<Condition>(cursor)?;
     Ok(TableRule::Check(condition))
 }
 

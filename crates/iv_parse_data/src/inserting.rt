@@ -35,7 +35,6 @@ impl Parse for ValueOrDefault {
 impl Parse for Items<ValueOrDefault> {
     ghost found = { read_tuple };
 
-    #[tactic(auto, unfolding(crate::specs::readers::Data::read_tuple))]
     fn parse(cursor: &mut Cursor<'_>) -> Result<Items<ValueOrDefault>, Stop> {
         enclosed_series::<ValueOrDefault>(cursor)
     }

@@ -23,6 +23,7 @@ pub fn optional<T: Parse>(cursor: &mut Cursor<'_>, kind: TokenKind) -> Result<Op
 }
 
 /// The part between parentheses.
+#[tactic(auto, unfolding(crate::specs::readers::Series::read_enclosed))]
 pub fn enclosed<T: Parse + Drop>(cursor: &mut Cursor<'_>) -> Result<T, Stop>
     ensures { Reads (read_enclosed T.found) cursor.old result cursor.new }
 {
@@ -32,6 +33,7 @@ pub fn enclosed<T: Parse + Drop>(cursor: &mut Cursor<'_>) -> Result<T, Stop>
 }
 
 /// Parts with a comma between any two.
+#[tactic(auto, unfolding(crate::specs::readers::Series::read_series))]
 pub fn series<T: Parse + Drop>(cursor: &mut Cursor<'_>) -> Result<Items<T>, Stop>
     ensures { Reads (read_series T.found) cursor.old result cursor.new }
 {
@@ -46,6 +48,7 @@ pub fn series<T: Parse + Drop>(cursor: &mut Cursor<'_>) -> Result<Items<T>, Stop
 }
 
 /// A series between parentheses.
+#[tactic(auto, unfolding(crate::specs::readers::Series::read_enclosed))]
 pub fn enclosed_series<T: Parse + Drop>(cursor: &mut Cursor<'_>) -> Result<Items<T>, Stop>
     ensures { Reads (read_enclosed (read_series T.found)) cursor.old result cursor.new }
 {

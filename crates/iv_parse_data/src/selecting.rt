@@ -1,9 +1,9 @@
 //! SELECT, UPDATE and DELETE.
 ghost use Rattle.iv_parse_terms.specs.Reading.{Reads};
-ghost use Rattle.iv_parse_data.specs.readers.Data.{read_shallow_condition, read_check, read_shallow_from, read_select_list, read_assignment, read_update, read_delete, read_select};
+ghost use Rattle.iv_parse_data.specs.readers.Data.{read_shallow_condition, read_shallow_from, read_select_list, read_assignment, read_update, read_delete, read_select};
 
 use crate::parts::Parse;
-use crate::repeated::{enclosed, optional, series};
+use crate::repeated::{optional, series};
 use iv_lex::TokenKind;
 use iv_parse_terms::{Cursor, Stop, read_condition, read_from};
 use iv_syntax::{
@@ -26,14 +26,6 @@ impl Parse for Condition {
     fn parse(cursor: &mut Cursor<'_>) -> Result<Condition, Stop> {
         read_condition(cursor)
     }
-}
-
-/// The condition between parentheses.
-#[tactic(auto, unfolding(crate::specs::readers::Data::read_check))]
-pub fn enclosed_condition(cursor: &mut Cursor<'_>) -> Result<Condition, Stop>
-    ensures { Reads read_check cursor.old result cursor.new }
-{
-    enclosed::<Condition>(cursor)
 }
 
 /// What a SELECT gives of each row.

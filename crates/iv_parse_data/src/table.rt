@@ -1,6 +1,6 @@
 //! CREATE TABLE and ALTER TABLE.
 ghost use Rattle.iv_parse_terms.specs.Reading.{Reads};
-ghost use Rattle.iv_parse_data.specs.readers.Tables.{read_column, read_column_constraints, read_element, read_elements, read_create_table, read_alter};
+ghost use Rattle.iv_parse_data.specs.readers.Tables.{read_column, read_element, read_create_table, read_alter};
 
 use crate::constraint::table_constraint;
 use crate::parts::Parse;
@@ -11,13 +11,6 @@ use iv_parse_terms::{Cursor, Stop};
 use iv_syntax::{ColumnConstraint, ColumnDefinition, Literal, Name, Statement, TableElement};
 use sqlite_items::Items;
 
-#[tactic(auto, unfolding(crate::specs::readers::Tables::read_column_constraints))]
-fn column_constraints(cursor: &mut Cursor<'_>) -> Result<Items<ColumnConstraint>, Stop>
-    ensures { Reads read_column_constraints cursor.old result cursor.new }
-{
-    sequence::<ColumnConstraint>(cursor)
-}
-
 // A column, from its type on.
 #[tactic(auto, unfolding(crate::specs::readers::Tables::read_column))]
 fn column(cursor: &mut Cursor<'_>, name: Name) -> Result<ColumnDefinition, Stop>
@@ -25,7 +18,7 @@ fn column(cursor: &mut Cursor<'_>, name: Name) -> Result<ColumnDefinition, Stop>
 {
     let kind = column_type(cursor)?;
     let default = optional::<Literal>(cursor, TokenKind::Default)?;
-    let constraints = column_constraints(cursor)?;
+    let constraints = sequence::<ColumnConstraint>(cursor)?;
     Ok(ColumnDefinition {
         name,
         kind,
@@ -48,20 +41,13 @@ impl Parse for TableElement {
     }
 }
 
-#[tactic(auto, unfolding(crate::specs::readers::Tables::read_elements))]
-fn elements(cursor: &mut Cursor<'_>) -> Result<Items<TableElement>, Stop>
-    ensures { Reads read_elements cursor.old result cursor.new }
-{
-    enclosed_series::<TableElement>(cursor)
-}
-
 /// CREATE TABLE, from the name on.
 #[tactic(auto, unfolding(crate::specs::readers::Tables::read_create_table))]
 pub fn create_table(cursor: &mut Cursor<'_>) -> Result<Statement, Stop>
     ensures { Reads read_create_table cursor.old result cursor.new }
 {
     let name = cursor.name()?;
-    let elements = elements(cursor)?;
+    let elements = enclosed_series::<TableElement>(cursor)?;
     Ok(Statement::CreateTable { name, elements })
 }
 

@@ -32,14 +32,10 @@ read_session_rule ws =
     (if_some (after kind.Savepoint ws) (read_as Savepoint read_name)
     (if_some (after kind.Release ws) (λ a. then_word kind.Savepoint a (read_as Release read_name)) (then_word kind.Set ws read_set)))))
 
--- after CREATE
-unfoldable pub read_create : List Word → FoundPart Statement
-read_create ws =
-    if_some (after kind.Table ws) read_create_table (then_word kind.Trigger ws (read_as statement.CreateTrigger read_trigger))
-
 unfoldable pub read_definition_rule : List Word → FoundPart Statement
 read_definition_rule ws =
-    if_some (after kind.Create ws) read_create
+    if_some (after kind.Create ws)
+    (λ a. if_some (after kind.Table a) read_create_table (then_word kind.Trigger a (read_as statement.CreateTrigger read_trigger)))
     (if_some (after kind.Alter ws) read_alter
     (if_some (after kind.Drop ws) (λ a. then_word kind.Trigger a (read_as DropTrigger read_name)) (read_session_rule ws)))
 

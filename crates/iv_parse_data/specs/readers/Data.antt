@@ -32,13 +32,13 @@ read_shallow = read_expression DEEPEST_TREE
 unfoldable pub read_shallow_condition : List Word → FoundPart Condition
 read_shallow_condition = read_condition DEEPEST_TREE
 
-unfoldable pub read_check : List Word → FoundPart Condition
+abbrev pub read_check : List Word → FoundPart Condition
 read_check = read_enclosed read_shallow_condition
 
 unfoldable pub read_value : List Word → FoundPart ValueOrDefault
 read_value ws = if_some (after kind.Default ws) (give Default) (read_as Value read_shallow ws)
 
-unfoldable pub read_tuple : List Word → FoundPart (List ValueOrDefault)
+abbrev pub read_tuple : List Word → FoundPart (List ValueOrDefault)
 read_tuple = read_enclosed (read_series read_value)
 
 unfoldable pub read_column_list : List Word → FoundPart (Option (List (List ℕ)))

@@ -29,7 +29,7 @@ module _ {A : Type 0} where
       (Some ([], ws))
 
   -- the series at the front; there are fewer commas than words
-  abbrev pub read_series : (List Word → Option (A × List Word)) → List Word → Option (List A × List Word)
+  unfoldable pub read_series : (List Word → Option (A × List Word)) → List Word → Option (List A × List Word)
   read_series part ws = then_read (part ws) (λ a rest. then_read (read_more part (length rest) rest) (with_first a))
 
   abbrev pub close : A → List Word → Option (A × List Word)
@@ -39,7 +39,7 @@ module _ {A : Type 0} where
   abbrev pub read_closed : (List Word → Option (A × List Word)) → List Word → Option (A × List Word)
   read_closed part ws = then_read (part ws) close
 
-  abbrev pub read_enclosed : (List Word → Option (A × List Word)) → List Word → Option (A × List Word)
+  unfoldable pub read_enclosed : (List Word → Option (A × List Word)) → List Word → Option (A × List Word)
   read_enclosed part ws = if_some (after kind.LeftParenthesis ws) (read_closed part) None
 
   -- the parts at the front, of which there are at most so many, up to where none begins
@@ -49,7 +49,7 @@ module _ {A : Type 0} where
       then_read (part ws) (λ o rest. if_some o (λ a. then_read (read_sequence part n rest) (with_first a)) (Some ([], ws)))
 
   -- the parts at the front, up to where none begins
-  abbrev pub read_all : (List Word → Option (Option A × List Word)) → List Word → Option (List A × List Word)
+  unfoldable pub read_all : (List Word → Option (Option A × List Word)) → List Word → Option (List A × List Word)
   read_all part ws = read_sequence part (length ws) ws
 
 module _ {A B : Type 0} where

@@ -24,15 +24,13 @@ unfoldable pub read_length : List Word → FoundPart ColumnType
 read_length ws =
     then_word kind.LeftParenthesis ws (λ a. then_read (after_number a) (λ n b. then_word kind.RightParenthesis b (give (Varchar n))))
 
-abbrev pub read_varying : List Word → FoundPart ColumnType
-read_varying ws = then_word kind.Varying ws read_length
-
 unfoldable pub read_type : List Word → FoundPart ColumnType
 read_type ws =
     if_some (after kind.Integer ws) (give Integer)
     (if_some (after kind.Int ws) (give Integer)
     (if_some (after kind.Varchar ws) read_length
-    (if_some (after kind.Character ws) read_varying (then_word kind.Char ws read_varying))))
+    (if_some (after kind.Character ws) (λ a. then_word kind.Varying a read_length)
+    (then_word kind.Char ws (λ a. then_word kind.Varying a read_length)))))
 
 unfoldable pub read_literal : List Word → FoundPart Literal
 read_literal ws =
@@ -110,7 +108,7 @@ column_constraint_of (Some n) None ws = None
 unfoldable pub read_column_constraint : List Word → FoundPart (Option ColumnConstraint)
 read_column_constraint ws = then_read (read_constraint_name ws) (λ n a. then_read (read_column_rule a) (column_constraint_of n))
 
-unfoldable pub read_column_constraints : List Word → FoundPart (List ColumnConstraint)
+abbrev pub read_column_constraints : List Word → FoundPart (List ColumnConstraint)
 read_column_constraints = read_all read_column_constraint
 
 -- a column, after its name
@@ -119,7 +117,7 @@ read_column n ws =
     then_read (read_type ws) (λ k a. then_read (read_default a) (λ d.
     read_as (λ cs. record { name = n; kind = k; default = d; constraints = cs }) read_column_constraints))
 
-unfoldable pub read_key : List Word → FoundPart (List (List ℕ))
+abbrev pub read_key : List Word → FoundPart (List (List ℕ))
 read_key = read_enclosed (read_series read_name)
 
 -- after FOREIGN
@@ -141,7 +139,7 @@ read_table_constraint ws =
 unfoldable pub read_element : List Word → FoundPart TableElement
 read_element ws = if_some (after_name ws) (λ p. read_as Column (read_column p.0) p.1) (read_as Constraint read_table_constraint ws)
 
-unfoldable pub read_elements : List Word → FoundPart (List TableElement)
+abbrev pub read_elements : List Word → FoundPart (List TableElement)
 read_elements = read_enclosed (read_series read_element)
 
 -- after CREATE TABLE

@@ -28,7 +28,7 @@ returns-in_err-condition c = λ o l.
     let p2 = c.if-accept-2.ensures o p3.0 in
     let p1 = c.if-accept.ensures o p2.0 in (
       p1.0,
-      part_told (λ x. x) (λ x. x) c.from_residual-in_err-condition.result c.in_err-condition.field-0.0 (read_check (ahead c.accept-2.new.self o)) (read_column_rule (ahead c.args.cursor.now o)) (ahead c.enclosed_condition.new.cursor o) (ahead c.enclosed_condition.new.cursor o) c.from_residual-in_err-condition.ensures p3.1
+      part_told (λ x. x) (λ x. x) c.from_residual-in_err-condition.result c.in_err-condition.field-0.0 (read_check (ahead c.accept-2.new.self o)) (read_column_rule (ahead c.args.cursor.now o)) (ahead c.enclosed.new.cursor o) (ahead c.enclosed.new.cursor o) c.from_residual-in_err-condition.ensures p3.1
           (λ x. rw (p1.1.0, ← p1.1.1, p2.1, x)),
     )
 

@@ -18,7 +18,7 @@ returns-in_err-names c = λ o l.
     let p2 = c.in_ok-expect.ensures o p3.0 in
     let p1 = c.if-accept.ensures o p2.0 in (
       p1.0,
-      part_told (λ x. x) (λ x. x) c.from_residual-in_err-names.result c.in_err-names.field-0.0 (read_key (ahead c.expect.new.self o)) (read_table_rule (ahead c.args.cursor.now o)) (ahead c.key.new.cursor o) (ahead c.key.new.cursor o) c.from_residual-in_err-names.ensures p3.1
+      part_told (λ x. x) (λ x. x) c.from_residual-in_err-names.result c.in_err-names.field-0.0 (read_key (ahead c.expect.new.self o)) (read_table_rule (ahead c.args.cursor.now o)) (ahead c.enclosed_series.new.cursor o) (ahead c.enclosed_series.new.cursor o) c.from_residual-in_err-names.ensures p3.1
           (λ x. rw (p1.1, p2.1, x)),
     )
 
@@ -59,7 +59,7 @@ returns-in_err-names-2 c = λ o l.
     let p2 = c.if-accept-2.ensures o p3.0 in
     let p1 = c.if-accept.ensures o p2.0 in (
       p1.0,
-      part_told (λ x. x) (λ x. x) c.from_residual-in_err-names-2.result c.in_err-names-2.field-0.0 (read_key (ahead c.null_treatment.new.cursor o)) (read_table_rule (ahead c.args.cursor.now o)) (ahead c.key-2.new.cursor o) (ahead c.key-2.new.cursor o) c.from_residual-in_err-names-2.ensures p5.1
+      part_told (λ x. x) (λ x. x) c.from_residual-in_err-names-2.result c.in_err-names-2.field-0.0 (read_key (ahead c.null_treatment.new.cursor o)) (read_table_rule (ahead c.args.cursor.now o)) (ahead c.enclosed_series-2.new.cursor o) (ahead c.enclosed_series-2.new.cursor o) c.from_residual-in_err-names-2.ensures p5.1
           (λ x. rw (p1.1.0, ← p1.1.1, p2.1.0, ← p2.1.1, p3.1, p4.1, x)),
     )
 
@@ -91,7 +91,7 @@ returns-in_err-condition c = λ o l.
     let p2 = c.if-accept-2.ensures o p3.0 in
     let p1 = c.if-accept.ensures o p2.0 in (
       p1.0,
-      part_told (λ x. x) (λ x. x) c.from_residual-in_err-condition.result c.in_err-condition.field-0.0 (read_check (ahead c.expect-2.new.self o)) (read_table_rule (ahead c.args.cursor.now o)) (ahead c.enclosed_condition.new.cursor o) (ahead c.enclosed_condition.new.cursor o) c.from_residual-in_err-condition.ensures p5.1
+      part_told (λ x. x) (λ x. x) c.from_residual-in_err-condition.result c.in_err-condition.field-0.0 (read_check (ahead c.expect-2.new.self o)) (read_table_rule (ahead c.args.cursor.now o)) (ahead c.enclosed.new.cursor o) (ahead c.enclosed.new.cursor o) c.from_residual-in_err-condition.ensures p5.1
           (λ x. rw (p1.1.0, ← p1.1.1, p2.1.0, ← p2.1.1, p3.1.0, ← p3.1.1, p4.1, x)),
     )
 

@@ -1,3 +1,5 @@
+use Rattle.iv_parse_terms.specs.Reading.{ahead}
+use Rattle.iv_parse_terms.proofs.Rules.{word_told}
 use Rattle.iv_parse_data.specs.readers.Tables.{read_type}
 use Rattle.iv_parse_data.proofs.types.column_type.Goals as goal
 
@@ -23,23 +25,56 @@ returns-then-accept-3 c = λ o l.
     let p1 = c.if-accept.ensures o p2.0 in
     (p1.0, rw (p1.1.0, ← p1.1.1, p2.1.0, ← p2.1.1, p3.1) p4.1)
 
-pub returns-then-accept-4 : goal.returns-then-accept-4
+pub returns-in_err-expect : goal.returns-in_err-expect
 unfolding read_type
-returns-then-accept-4 c = λ o l.
-    let p5 = c.varying.ensures o l in
+returns-in_err-expect c = λ o l.
+    let p5 = c.in_err-expect.ensures o l in
     let p4 = c.if-accept-4.ensures o p5.0 in
     let p3 = c.if-accept-3.ensures o p4.0 in
     let p2 = c.if-accept-2.ensures o p3.0 in
     let p1 = c.if-accept.ensures o p2.0 in
-    (p1.0, rw (p1.1.0, ← p1.1.1, p2.1.0, ← p2.1.1, p3.1.0, ← p3.1.1, p4.1) p5.1)
+    (p1.0, word_told (λ x. x) c.from_residual.result c.in_err-expect.field-0.0 (read_type (ahead c.args.cursor.now o)) (ahead c.expect.new.self o) c.from_residual.ensures (rw (p1.1.0, ← p1.1.1, p2.1.0, ← p2.1.1, p3.1.0, ← p3.1.1, p4.1, p5.1)))
 
-pub returns : goal.returns
+pub returns-then-accept-4 : goal.returns-then-accept-4
 unfolding read_type
-returns c = λ o l.
-    let p6 = c.varying-2.ensures o l in
+returns-then-accept-4 c = λ o l.
+    let p6 = c.length-2.ensures o l in
     let p5 = c.in_ok-expect.ensures o p6.0 in
     let p4 = c.if-accept-4.ensures o p5.0 in
     let p3 = c.if-accept-3.ensures o p4.0 in
     let p2 = c.if-accept-2.ensures o p3.0 in
     let p1 = c.if-accept.ensures o p2.0 in
-    (p1.0, rw (p1.1.0, ← p1.1.1, p2.1.0, ← p2.1.1, p3.1.0, ← p3.1.1, p4.1.0, ← p4.1.1, p5.1) p6.1)
+    (p1.0, rw (p1.1.0, ← p1.1.1, p2.1.0, ← p2.1.1, p3.1.0, ← p3.1.1, p4.1, p5.1) p6.1)
+
+pub returns-in_err-expect-2 : goal.returns-in_err-expect-2
+unfolding read_type
+returns-in_err-expect-2 c = λ o l.
+    let p5 = c.in_err-expect-2.ensures o l in
+    let p4 = c.if-accept-4.ensures o p5.0 in
+    let p3 = c.if-accept-3.ensures o p4.0 in
+    let p2 = c.if-accept-2.ensures o p3.0 in
+    let p1 = c.if-accept.ensures o p2.0 in
+    (p1.0, word_told (λ x. x) c.from_residual-in_err-expect-2.result c.in_err-expect-2.field-0.0 (read_type (ahead c.args.cursor.now o)) (ahead c.expect-2.new.self o) c.from_residual-in_err-expect-2.ensures (rw (p1.1.0, ← p1.1.1, p2.1.0, ← p2.1.1, p3.1.0, ← p3.1.1, p4.1.0, ← p4.1.1, p5.1)))
+
+pub returns-in_err-expect-3 : goal.returns-in_err-expect-3
+unfolding read_type
+returns-in_err-expect-3 c = λ o l.
+    let p6 = c.in_err-expect-3.ensures o l in
+    let p5 = c.in_ok-expect-2.ensures o p6.0 in
+    let p4 = c.if-accept-4.ensures o p5.0 in
+    let p3 = c.if-accept-3.ensures o p4.0 in
+    let p2 = c.if-accept-2.ensures o p3.0 in
+    let p1 = c.if-accept.ensures o p2.0 in
+    (p1.0, word_told (λ x. x) c.from_residual-in_err-expect-3.result c.in_err-expect-3.field-0.0 (read_type (ahead c.args.cursor.now o)) (ahead c.expect-3.new.self o) c.from_residual-in_err-expect-3.ensures (rw (p1.1.0, ← p1.1.1, p2.1.0, ← p2.1.1, p3.1.0, ← p3.1.1, p4.1.0, ← p4.1.1, p5.1, p6.1)))
+
+pub returns : goal.returns
+unfolding read_type
+returns c = λ o l.
+    let p7 = c.length-3.ensures o l in
+    let p6 = c.in_ok-expect-3.ensures o p7.0 in
+    let p5 = c.in_ok-expect-2.ensures o p6.0 in
+    let p4 = c.if-accept-4.ensures o p5.0 in
+    let p3 = c.if-accept-3.ensures o p4.0 in
+    let p2 = c.if-accept-2.ensures o p3.0 in
+    let p1 = c.if-accept.ensures o p2.0 in
+    (p1.0, rw (p1.1.0, ← p1.1.1, p2.1.0, ← p2.1.1, p3.1.0, ← p3.1.1, p4.1.0, ← p4.1.1, p5.1, p6.1) p7.1)
