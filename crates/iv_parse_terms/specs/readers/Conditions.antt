@@ -42,13 +42,13 @@ close_item limit i ws = if_some (after kind.RightParenthesis ws) (enclose limit 
 
 -- a comparison at the front, and the words after it
 abbrev pub after_comparison : List Word → Option (Comparison × List Word)
-after_comparison ws =
-    if_some (after kind.Equals ws) (λ a. Some (comparison.Equal, a))
-    (if_some (after kind.NotEquals ws) (λ a. Some (comparison.NotEqual, a))
-    (if_some (after kind.Less ws) (λ a. Some (comparison.Less, a))
-    (if_some (after kind.LessEquals ws) (λ a. Some (comparison.LessEqual, a))
-    (if_some (after kind.Greater ws) (λ a. Some (comparison.Greater, a))
-    (if_some (after kind.GreaterEquals ws) (λ a. Some (comparison.GreaterEqual, a)) None)))))
+after_comparison (plain kind.Equals ∷ ws) = Some (comparison.Equal, ws)
+after_comparison (plain kind.NotEquals ∷ ws) = Some (comparison.NotEqual, ws)
+after_comparison (plain kind.Less ∷ ws) = Some (comparison.Less, ws)
+after_comparison (plain kind.LessEquals ∷ ws) = Some (comparison.LessEqual, ws)
+after_comparison (plain kind.Greater ∷ ws) = Some (comparison.Greater, ws)
+after_comparison (plain kind.GreaterEquals ∷ ws) = Some (comparison.GreaterEqual, ws)
+after_comparison _ = None
 
 -- after IS: [NOT] NULL
 abbrev pub null_test : ℕ → Expression → List Word → FoundItem
