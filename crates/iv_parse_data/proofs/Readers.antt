@@ -19,7 +19,7 @@ use Rattle.iv_parse_data.specs.Types.element.{Column}
 use Rattle.iv_parse_terms.specs.After.{after_number, after_quoted}
 use Rattle.iv_parse_data.specs.readers.Data.{FoundPart, then_word, read_column_list, read_check}
 use Rattle.iv_parse_data.specs.readers.Data.{read_assignment, read_select_list, read_shallow_from, read_source, read_where}
-use Rattle.iv_parse_data.specs.readers.Tables.{read_actions, read_column, read_key, read_length, read_match, read_null_treatment}
+use Rattle.iv_parse_data.specs.readers.Tables.{read_actions, read_column, read_key, read_length, read_match, read_null_treatment, read_varying}
 
 -- after SELECT
 abbrev pub read_select_source : List Word → FoundPart InsertSource
@@ -62,9 +62,6 @@ read_number = after_number
 
 abbrev pub read_quoted : List Word → FoundPart (List ℕ)
 read_quoted = after_quoted
-
-abbrev pub read_varying : List Word → FoundPart ColumnType
-read_varying ws = then_word kind.Varying ws read_length
 
 abbrev pub read_character : List Word → FoundPart ColumnType
 read_character ws =

@@ -20,11 +20,11 @@ use Rattle.iv_parse_data.specs.readers.Series.{read_all, read_optional, read_ser
 use Rattle.iv_parse_data.specs.Data.{IsName, Names, IsColumnList, IsShallowCondition}
 use Rattle.iv_parse_data.specs.readers.Data.{read_name, read_column_list, read_check}
 use Rattle.iv_parse_data.specs.Tables.{mode_kind, IsVarchar, IsType, IsLiteral, IsDefault, IsConstraintName, IsDeferrable, IsInitially, IsTime, match_kind, IsMatch, action_words, IsOn, AreActions, IsReferences, null_words, IsColumnRule, IsColumnConstraint, IsColumn, IsTableRule, IsTableConstraint, IsElement}
-use Rattle.iv_parse_data.specs.readers.Tables.{read_length, read_type, read_literal, read_default, read_constraint_name, read_deferrable, read_mode, read_initially, read_time, read_match_type, read_match, read_referential_action, read_on, read_actions, read_references, read_null_treatment, read_column_rule, column_constraint_of, read_column_constraint, read_column_constraints, read_column, read_key, read_foreign_key, read_table_rule, read_table_constraint, read_element, read_elements}
+use Rattle.iv_parse_data.specs.readers.Tables.{read_varying, read_length, read_type, read_literal, read_default, read_constraint_name, read_deferrable, read_mode, read_initially, read_time, read_match_type, read_match, read_referential_action, read_on, read_actions, read_references, read_null_treatment, read_column_rule, column_constraint_of, read_column_constraint, read_column_constraints, read_column, read_key, read_foreign_key, read_table_rule, read_table_constraint, read_element, read_elements}
 use Rattle.iv_parse_data.proofs.Fronts.{Good, nothing_good, done_good, after_good, name_good, then_good, made_good, series_good, enclosed_good, ahead_good}
 use Rattle.iv_parse_data.proofs.OptionalSound.{IsNumber, IsQuoted, IsSign, number_good, quoted_good, sign_good, found_good, sequence_good, either_order_good}
 use Rattle.iv_parse_data.proofs.DataSound.{one_name_good, names_good, column_list_good, check_good}
-use Rattle.iv_parse_data.proofs.Readers.{read_varying, read_number, read_quoted, read_varchar, read_set_action, read_strict_action, read_reference_columns, read_null_rule, read_primary_rule, read_unique_column, read_plain_rule, read_condition_rule, read_primary_key, read_check_rule, read_unique_key, read_unique_rule, read_column_element}
+use Rattle.iv_parse_data.proofs.Readers.{read_number, read_quoted, read_varchar, read_set_action, read_strict_action, read_reference_columns, read_null_rule, read_primary_rule, read_unique_column, read_plain_rule, read_condition_rule, read_primary_key, read_check_rule, read_unique_key, read_unique_rule, read_column_element}
 
 length_good : (head : List Word) → IsVarchar head → (ws : List Word) → Good (λ back t. IsType (head ++ back) t) ws (read_length ws)
 unfolding read_length

@@ -1,6 +1,6 @@
 //! The types of columns, literals and defaults.
 ghost use Rattle.iv_parse_terms.specs.Reading.{Reads};
-ghost use Rattle.iv_parse_data.specs.readers.Tables.{read_length, read_type, read_literal};
+ghost use Rattle.iv_parse_data.specs.readers.Tables.{read_length, read_varying, read_type, read_literal};
 
 use crate::parts::Parse;
 use iv_lex::TokenKind;
@@ -18,6 +18,14 @@ fn length(cursor: &mut Cursor<'_>) -> Result<ColumnType, Stop>
     Ok(ColumnType::Varchar(value))
 }
 
+// VARYING and a length.
+fn varying(cursor: &mut Cursor<'_>) -> Result<ColumnType, Stop>
+    ensures { Reads read_varying cursor.old result cursor.new }
+{
+    cursor.expect(TokenKind::Varying)?;
+    length(cursor)
+}
+
 /// The type of a column.
 #[tactic(auto, unfolding(crate::specs::readers::Tables::read_type))]
 pub fn column_type(cursor: &mut Cursor<'_>) -> Result<ColumnType, Stop>
@@ -33,12 +41,10 @@ pub fn column_type(cursor: &mut Cursor<'_>) -> Result<ColumnType, Stop>
         return length(cursor);
     }
     if cursor.accept(TokenKind::Character) {
-        cursor.expect(TokenKind::Varying)?;
-        return length(cursor);
+        return varying(cursor);
     }
     cursor.expect(TokenKind::Char)?;
-    cursor.expect(TokenKind::Varying)?;
-    length(cursor)
+    varying(cursor)
 }
 
 impl Parse for Literal {

@@ -24,13 +24,15 @@ unfoldable pub read_length : List Word → FoundPart ColumnType
 read_length ws =
     then_word kind.LeftParenthesis ws (λ a. then_read (after_number a) (λ n b. then_word kind.RightParenthesis b (give (Varchar n))))
 
+abbrev pub read_varying : List Word → FoundPart ColumnType
+read_varying ws = then_word kind.Varying ws read_length
+
 unfoldable pub read_type : List Word → FoundPart ColumnType
 read_type ws =
     if_some (after kind.Integer ws) (give Integer)
     (if_some (after kind.Int ws) (give Integer)
     (if_some (after kind.Varchar ws) read_length
-    (if_some (after kind.Character ws) (λ a. then_word kind.Varying a read_length)
-    (then_word kind.Char ws (λ a. then_word kind.Varying a read_length)))))
+    (if_some (after kind.Character ws) read_varying (then_word kind.Char ws read_varying))))
 
 unfoldable pub read_literal : List Word → FoundPart Literal
 read_literal ws =

@@ -42,7 +42,7 @@ returns-in_err-expect-2 c = λ o l.
     let p3 = c.if-accept-4.ensures o p4.0 in
     let p2 = c.if-accept-2.ensures o p3.0 in
     let p1 = c.if-accept.ensures o p2.0 in
-    (p1.0, word_told (λ x. x) c.from_residual-in_err-expect-2.result c.in_err-expect-2.field-0.0 (read_referential_action (ahead c.args.cursor.now o)) (ahead c.expect-2.new.self o) c.from_residual-in_err-expect-2.ensures (rw (p1.1.0, ← p1.1.1, p2.1.0, ← p2.1.1, p3.1, p4.1)))
+    (p1.0, word_told (λ x. x) c.from_residual-in_err-expect-2.result c.in_err-expect-2.field-0.0 (read_referential_action (ahead c.args.cursor.now o)) (ahead c.expect-then-accept-4.new.self o) c.from_residual-in_err-expect-2.ensures (rw (p1.1.0, ← p1.1.1, p2.1.0, ← p2.1.1, p3.1, p4.1)))
 
 pub returns-then-accept-4 : goal.returns-then-accept-4
 unfolding read_referential_action

@@ -59,7 +59,7 @@ returns-in_err-names-2 c = λ o l.
     let p2 = c.if-accept-2.ensures o p3.0 in
     let p1 = c.if-accept.ensures o p2.0 in (
       p1.0,
-      part_told (λ x. x) (λ x. x) c.from_residual-in_err-names-2.result c.in_err-names-2.field-0.0 (read_key (ahead c.null_treatment.new.cursor o)) (read_table_rule (ahead c.args.cursor.now o)) (ahead c.enclosed_series-2.new.cursor o) (ahead c.enclosed_series-2.new.cursor o) c.from_residual-in_err-names-2.ensures p5.1
+      part_told (λ x. x) (λ x. x) c.from_residual-in_err-names-2.result c.in_err-names-2.field-0.0 (read_key (ahead c.null_treatment.new.cursor o)) (read_table_rule (ahead c.args.cursor.now o)) (ahead c.enclosed_series-then-accept-3.new.cursor o) (ahead c.enclosed_series-then-accept-3.new.cursor o) c.from_residual-in_err-names-2.ensures p5.1
           (λ x. rw (p1.1.0, ← p1.1.1, p2.1.0, ← p2.1.1, p3.1, p4.1, x)),
     )
 

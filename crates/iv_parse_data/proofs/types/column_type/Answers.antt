@@ -1,6 +1,13 @@
-use Rattle.iv_parse_terms.specs.Reading.{ahead}
-use Rattle.iv_parse_terms.proofs.Rules.{word_told}
-use Rattle.iv_parse_data.specs.readers.Tables.{read_type}
+use Rattle.std.specs.Prelude.{None, List}
+use Rattle.iv_lex.specs.declared.kind.TokenKind.TheVariants as kind
+use Rattle.iv_lex.specs.Words.{Word}
+use Rattle.iv_parse_terms.specs.After.{after, if_some}
+use Rattle.iv_parse_terms.proofs.Rules.{on_expected, on_other}
+use Rattle.iv_parse_data.specs.Types.{ColumnType}
+use Rattle.iv_parse_data.specs.Types.type.{Integer}
+use Rattle.iv_parse_data.specs.readers.Series.{give}
+use Rattle.iv_parse_data.specs.readers.Data.{FoundPart}
+use Rattle.iv_parse_data.specs.readers.Tables.{read_length, read_type, read_varying}
 use Rattle.iv_parse_data.proofs.types.column_type.Goals as goal
 
 pub returns-then-accept : goal.returns-then-accept
@@ -16,65 +23,25 @@ returns-then-accept-2 c = λ o l.
     let p1 = c.if-accept.ensures o p2.0 in
     (p1.0, rw (p1.1.0, ← p1.1.1, p2.1))
 
-pub returns-then-accept-3 : goal.returns-then-accept-3
-unfolding read_type
-returns-then-accept-3 c = λ o l.
-    let p4 = c.length.ensures o l in
-    let p3 = c.if-accept-3.ensures o p4.0 in
-    let p2 = c.if-accept-2.ensures o p3.0 in
-    let p1 = c.if-accept.ensures o p2.0 in
-    (p1.0, rw (p1.1.0, ← p1.1.1, p2.1.0, ← p2.1.1, p3.1) p4.1)
+abbrev from_char : List Word → FoundPart ColumnType
+from_char ws = if_some (after kind.Char ws) read_varying None
 
-pub returns-in_err-expect : goal.returns-in_err-expect
-unfolding read_type
-returns-in_err-expect c = λ o l.
-    let p5 = c.in_err-expect.ensures o l in
-    let p4 = c.if-accept-4.ensures o p5.0 in
-    let p3 = c.if-accept-3.ensures o p4.0 in
-    let p2 = c.if-accept-2.ensures o p3.0 in
-    let p1 = c.if-accept.ensures o p2.0 in
-    (p1.0, word_told (λ x. x) c.from_residual.result c.in_err-expect.field-0.0 (read_type (ahead c.args.cursor.now o)) (ahead c.expect.new.self o) c.from_residual.ensures (rw (p1.1.0, ← p1.1.1, p2.1.0, ← p2.1.1, p3.1.0, ← p3.1.1, p4.1, p5.1)))
+abbrev from_character : List Word → FoundPart ColumnType
+from_character ws = if_some (after kind.Character ws) read_varying (from_char ws)
 
-pub returns-then-accept-4 : goal.returns-then-accept-4
-unfolding read_type
-returns-then-accept-4 c = λ o l.
-    let p6 = c.length-2.ensures o l in
-    let p5 = c.in_ok-expect.ensures o p6.0 in
-    let p4 = c.if-accept-4.ensures o p5.0 in
-    let p3 = c.if-accept-3.ensures o p4.0 in
-    let p2 = c.if-accept-2.ensures o p3.0 in
-    let p1 = c.if-accept.ensures o p2.0 in
-    (p1.0, rw (p1.1.0, ← p1.1.1, p2.1.0, ← p2.1.1, p3.1.0, ← p3.1.1, p4.1, p5.1) p6.1)
+abbrev from_varchar : List Word → FoundPart ColumnType
+from_varchar ws = if_some (after kind.Varchar ws) read_length (from_character ws)
 
-pub returns-in_err-expect-2 : goal.returns-in_err-expect-2
-unfolding read_type
-returns-in_err-expect-2 c = λ o l.
-    let p5 = c.in_err-expect-2.ensures o l in
-    let p4 = c.if-accept-4.ensures o p5.0 in
-    let p3 = c.if-accept-3.ensures o p4.0 in
-    let p2 = c.if-accept-2.ensures o p3.0 in
-    let p1 = c.if-accept.ensures o p2.0 in
-    (p1.0, word_told (λ x. x) c.from_residual-in_err-expect-2.result c.in_err-expect-2.field-0.0 (read_type (ahead c.args.cursor.now o)) (ahead c.expect-2.new.self o) c.from_residual-in_err-expect-2.ensures (rw (p1.1.0, ← p1.1.1, p2.1.0, ← p2.1.1, p3.1.0, ← p3.1.1, p4.1.0, ← p4.1.1, p5.1)))
-
-pub returns-in_err-expect-3 : goal.returns-in_err-expect-3
-unfolding read_type
-returns-in_err-expect-3 c = λ o l.
-    let p6 = c.in_err-expect-3.ensures o l in
-    let p5 = c.in_ok-expect-2.ensures o p6.0 in
-    let p4 = c.if-accept-4.ensures o p5.0 in
-    let p3 = c.if-accept-3.ensures o p4.0 in
-    let p2 = c.if-accept-2.ensures o p3.0 in
-    let p1 = c.if-accept.ensures o p2.0 in
-    (p1.0, word_told (λ x. x) c.from_residual-in_err-expect-3.result c.in_err-expect-3.field-0.0 (read_type (ahead c.args.cursor.now o)) (ahead c.expect-3.new.self o) c.from_residual-in_err-expect-3.ensures (rw (p1.1.0, ← p1.1.1, p2.1.0, ← p2.1.1, p3.1.0, ← p3.1.1, p4.1.0, ← p4.1.1, p5.1, p6.1)))
+abbrev from_int : List Word → FoundPart ColumnType
+from_int ws = if_some (after kind.Int ws) (give Integer) (from_varchar ws)
 
 pub returns : goal.returns
 unfolding read_type
-returns c = λ o l.
-    let p7 = c.length-3.ensures o l in
-    let p6 = c.in_ok-expect-3.ensures o p7.0 in
-    let p5 = c.in_ok-expect-2.ensures o p6.0 in
-    let p4 = c.if-accept-4.ensures o p5.0 in
-    let p3 = c.if-accept-3.ensures o p4.0 in
-    let p2 = c.if-accept-2.ensures o p3.0 in
-    let p1 = c.if-accept.ensures o p2.0 in
-    (p1.0, rw (p1.1.0, ← p1.1.1, p2.1.0, ← p2.1.1, p3.1.0, ← p3.1.1, p4.1.0, ← p4.1.1, p5.1, p6.1) p7.1)
+returns c =
+    let end = c.varying-2.new.cursor in
+    let r = c.varying-2.result in
+    on_other (λ x. x) (after kind.Integer) (give Integer) from_int c.args.cursor.now c.accept.new.self end r c.if-accept.ensures
+    (on_other (λ x. x) (after kind.Int) (give Integer) from_varchar c.accept.new.self c.accept-2.new.self end r c.if-accept-2.ensures
+    (on_other (λ x. x) (after kind.Varchar) read_length from_character c.accept-2.new.self c.accept-3.new.self end r c.if-accept-3.ensures
+    (on_other (λ x. x) (after kind.Character) read_varying from_char c.accept-3.new.self c.accept-4.new.self end r c.if-accept-4.ensures
+    (on_expected (λ x. x) (after kind.Char) read_varying c.accept-4.new.self c.expect.new.self end c.in_ok-expect.field-0 r c.in_ok-expect.ensures c.varying-2.ensures))))
