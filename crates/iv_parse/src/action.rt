@@ -22,7 +22,6 @@ fn set_action(cursor: &mut Cursor<'_>) -> Result<TriggerAction, Stop>
     Ok(TriggerAction::Set(variable, column, value))
 }
 
-#[tactic(auto, unfolding(crate::specs::readers::Triggers::read_action))]
 fn action(cursor: &mut Cursor<'_>) -> Result<TriggerAction, Stop>
     ensures { Reads read_action cursor.old result cursor.new }
 {

@@ -44,7 +44,6 @@ fn set_constraints(cursor: &mut Cursor<'_>) -> Result<Statement, Stop>
 }
 
 /// A statement about transactions, savepoints or constraint modes.
-#[tactic(auto, unfolding(crate::specs::readers::Statements::read_session_rule))]
 pub fn session_statement(cursor: &mut Cursor<'_>) -> Result<Statement, Stop>
     ensures { Reads read_session_rule cursor.old result cursor.new }
 {

@@ -10,7 +10,6 @@ use iv_parse_terms::{Cursor, Stop};
 use iv_syntax::Statement;
 
 // A statement that is none about data.
-#[tactic(auto, unfolding(crate::specs::readers::Statements::read_definition_rule))]
 fn definition(cursor: &mut Cursor<'_>) -> Result<Statement, Stop>
     ensures { Reads read_definition_rule cursor.old result cursor.new }
 {
@@ -34,7 +33,6 @@ fn definition(cursor: &mut Cursor<'_>) -> Result<Statement, Stop>
 }
 
 // A statement without its semicolon.
-#[tactic(auto, unfolding(crate::specs::readers::Statements::read_rule))]
 fn rule(cursor: &mut Cursor<'_>) -> Result<Statement, Stop>
     ensures { Reads read_rule cursor.old result cursor.new }
 {

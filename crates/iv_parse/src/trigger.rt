@@ -83,7 +83,6 @@ fn update_columns(cursor: &mut Cursor<'_>) -> Result<Items<Name>, Stop>
 }
 
 // The event, and the columns of UPDATE OF.
-#[tactic(auto, unfolding(crate::specs::readers::Triggers::read_event))]
 fn event(cursor: &mut Cursor<'_>) -> Result<(TriggerEvent, Items<Name>), Stop>
     ensures { Reads read_event cursor.old result cursor.new }
 {

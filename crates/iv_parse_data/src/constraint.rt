@@ -111,7 +111,6 @@ fn null_treatment(cursor: &mut Cursor<'_>) -> Result<NullTreatment, Stop>
 }
 
 // The rule of a column's constraint, where one begins.
-#[tactic(auto, unfolding(crate::specs::readers::Tables::read_column_rule))]
 fn column_rule(cursor: &mut Cursor<'_>) -> Result<Option<ColumnRule>, Stop>
     ensures { Reads read_column_rule cursor.old result cursor.new }
 {

@@ -1,12 +1,12 @@
 //! Items of REFERENCING.
 ghost use Rattle.iv_parse_terms.specs.Reading.{Reads};
-ghost use Rattle.iv_parse_data.specs.readers.Items.{read_transition, read_transition_name, read_referencing_item_of, read_referencing_item};
+ghost use Rattle.iv_parse_data.specs.readers.Items.{read_transition, read_referencing_item_of, read_referencing_item};
 
 use crate::parts::ParseSome;
 use iv_expr::Side;
 use iv_lex::TokenKind;
 use iv_parse_terms::{Cursor, Stop};
-use iv_syntax::{Name, Referencing, TransitionName};
+use iv_syntax::{Referencing, TransitionName};
 
 // [ ROW | TABLE ]
 #[tactic(auto, unfolding(crate::specs::readers::Items::read_transition))]
@@ -20,21 +20,14 @@ fn transition(cursor: &mut Cursor<'_>) -> Result<TransitionName, Stop>
     Ok(TransitionName::Row)
 }
 
-// [ AS ] and a name.
-fn transition_name(cursor: &mut Cursor<'_>) -> Result<Name, Stop>
-    ensures { Reads read_transition_name cursor.old result cursor.new }
-{
-    cursor.accept(TokenKind::As);
-    cursor.name()
-}
-
 // An item, after OLD or NEW.
 #[tactic(auto, unfolding(crate::specs::readers::Items::read_referencing_item_of))]
 fn item_of(cursor: &mut Cursor<'_>, side: Side) -> Result<Option<Referencing>, Stop>
     ensures { Reads (read_referencing_item_of side) cursor.old result cursor.new }
 {
     let what = transition(cursor)?;
-    let name = transition_name(cursor)?;
+    cursor.accept(TokenKind::As);
+    let name = cursor.name()?;
     Ok(Some(Referencing { side, what, name }))
 }
 

@@ -189,8 +189,7 @@ pub fn read_condition(cursor: &mut Cursor<'_>) -> Result<Condition, Stop>
     ensures { Reads (read DEEPEST_TREE) cursor.old result cursor.new }
 {
     let found = item(cursor, DEEPEST_TREE)?;
-    let condition = truth(found)?;
-    let (tree, _) = condition.into_parts();
+    let (tree, _) = truth(found)?.into_parts();
     Ok(tree)
 }
 
@@ -198,7 +197,6 @@ pub fn read_condition(cursor: &mut Cursor<'_>) -> Result<Condition, Stop>
 pub fn read_from(cursor: &mut Cursor<'_>) -> Result<(RangeName, Option<Condition>), Stop>
     ensures { Reads (from DEEPEST_TREE) cursor.old result cursor.new }
 {
-    let found = from_range(cursor, DEEPEST_TREE)?;
-    let (range, condition, _) = found.into_parts();
+    let (range, condition, _) = from_range(cursor, DEEPEST_TREE)?.into_parts();
     Ok((range, condition))
 }

@@ -244,10 +244,7 @@ impl<'a> Cursor<'a> {
     pub fn name(&mut self) -> Result<Name, Stop>
         ensures { Reads after_name self.old result self.new }
     {
-        let Some(name) = self.accept_name()? else {
-            return Err(Stop::NoMatch);
-        };
-        Ok(name)
+        self.accept_name()?.ok_or(Stop::NoMatch)
     }
 
     /// Goes past a text, where one is next.
@@ -272,10 +269,7 @@ impl<'a> Cursor<'a> {
     pub fn quoted(&mut self) -> Result<Text, Stop>
         ensures { Reads after_quoted self.old result self.new }
     {
-        let Some(quoted) = self.accept_quoted()? else {
-            return Err(Stop::NoMatch);
-        };
-        Ok(quoted)
+        self.accept_quoted()?.ok_or(Stop::NoMatch)
     }
 
     /// Goes past a number, where one is next.
@@ -295,10 +289,7 @@ impl<'a> Cursor<'a> {
     pub fn number(&mut self) -> Result<u64, Stop>
         ensures { Reads after_number self.old result self.new }
     {
-        let Some(number) = self.accept_number() else {
-            return Err(Stop::NoMatch);
-        };
-        Ok(number)
+        self.accept_number().ok_or(Stop::NoMatch)
     }
 
     /// Goes past a comparison, where one is next.

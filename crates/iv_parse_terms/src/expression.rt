@@ -232,7 +232,6 @@ pub fn signed_factor(cursor: &mut Cursor<'_>, limit: u8, sign: Sign) -> Result<E
 pub fn read_expression(cursor: &mut Cursor<'_>) -> Result<Expression, Stop>
     ensures { Reads (read DEEPEST_TREE) cursor.old result cursor.new }
 {
-    let found = expression(cursor, DEEPEST_TREE)?;
-    let (tree, _) = found.into_parts();
+    let (tree, _) = expression(cursor, DEEPEST_TREE)?.into_parts();
     Ok(tree)
 }

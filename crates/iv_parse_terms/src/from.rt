@@ -23,8 +23,7 @@ fn alias(cursor: &mut Cursor<'_>) -> Result<Option<Name>, Stop>
         let alias = cursor.name()?;
         return Ok(Some(alias));
     }
-    let alias = cursor.accept_name()?;
-    Ok(alias)
+    Ok(cursor.accept_name()?)
 }
 
 /// A table and its alias.
