@@ -1,6 +1,7 @@
 -- The lines of an account, after those of the outcome.
 use Rattle.std.specs.Prelude.{ℕ, zero, suc, ◌-◌, Bool, true, false, if◌then◌else◌, List, [], ◌∷◌, ◌++◌, codes, decimal, slice_get, Option, Some, None, Result, Ok, Err}
 use Rattle.std.specs.List.{flat_map}
+use Rattle.std.specs.Fmt.{signed_decimal}
 use Rattle.iv_value.specs.declared.value.Value.{Value}
 use Rattle.iv_value.specs.declared.value.Truth.{Truth}
 use Rattle.iv_value.specs.declared.value.Truth.TheVariants.{False, Unknown, True}
@@ -28,7 +29,16 @@ use Rattle.iv_account.specs.declared.entry.TriggerView.{TriggerView}
 use Rattle.iv_account.specs.declared.entry.SkippedView.{SkippedView}
 use Rattle.iv_account.specs.declared.entry.Disagreement.{Disagreement}
 use Rattle.iv_account.specs.declared.entry.Entry.{Entry}
-use Rattle.iv_account.specs.declared.entry.Entry.TheVariants.{Changed, Acted, Ran, Skipped, Began, Ended, Faulted, Disagreed}
+use Rattle.iv_account.specs.declared.entry.Entry.TheVariants.{Changed, Acted, Ran, Skipped, Began, Ended, Faulted, Disagreed, Failed}
+use Rattle.iv_account.specs.declared.failure.Operator.{Operator}
+use Rattle.iv_account.specs.declared.failure.Operator.TheVariants.{Plus, Minus, Times}
+use Rattle.iv_account.specs.declared.failure.ValueFailure.{ValueFailure}
+use Rattle.iv_account.specs.declared.failure.ValueFailure.TheVariants.{OutOfRange, TooLong}
+use Rattle.iv_account.specs.declared.failure.RowAtHand.{RowAtHand}
+use Rattle.iv_account.specs.declared.failure.RowAtHand.TheVariants as hand
+use Rattle.iv_account.specs.declared.failure.EvaluatedFor.{EvaluatedFor}
+use Rattle.iv_account.specs.declared.failure.EvaluatedFor.TheVariants as part
+use Rattle.iv_account.specs.declared.failure.FailedEvaluation.{FailedEvaluation}
 use Rattle.iv_print.specs.Lines.{value_text, values_text, name_of, trigger_text, row_number_text}
 
 -- two spaces for each
@@ -242,6 +252,44 @@ conflict_line s depth constraint rows how =
     indent depth
     ++ (name_of (slice_get s.constraints constraint) ++ (codes ": " ++ (conflict_text s constraint rows how ++ codes "\n")))
 
+-- ---- numbers out of range, and texts that are too long
+
+-- the column, the item of a SELECT or the condition that was evaluated
+abbrev pub part_name : Schema → EvaluatedFor → List ℕ
+part_name s (part.Column table column) = column_name_in (slice_get s.tables table) column
+part_name s (part.Item place) = codes "item " ++ decimal place
+part_name s part.Where = codes "WHERE"
+part_name s (part.When id) = codes "WHEN of trigger" ++ trigger_text s id
+
+-- with the table of a column
+abbrev pub part_in_table : Schema → EvaluatedFor → List ℕ
+part_in_table s (part.Column table column) =
+    column_name_in (slice_get s.tables table) column ++ (codes " of " ++ table_name (slice_get s.tables table))
+part_in_table s evaluated = part_name s evaluated
+
+-- what was evaluated, and the row at hand
+abbrev pub evaluated_text : Schema → EvaluatedFor → RowAtHand → List ℕ
+evaluated_text s evaluated (hand.Row r) =
+    part_name s evaluated ++ (codes " of " ++ (numbered_text s r.table r.number ++ listed_text r.values))
+evaluated_text s evaluated (hand.Source r) =
+    part_in_table s evaluated ++ (codes " from " ++ (numbered_text s r.table r.number ++ listed_text r.values))
+evaluated_text s evaluated (hand.Variables old new) =
+    part_in_table s evaluated ++ (side_text (codes " OLD") old ++ side_text (codes " NEW") new)
+
+abbrev pub operator_text : Operator → List ℕ
+operator_text Plus = codes " + "
+operator_text Minus = codes " - "
+operator_text Times = codes " * "
+
+abbrev pub failure_text : ValueFailure → List ℕ
+failure_text (OutOfRange left operator right) =
+    codes ": " ++ (signed_decimal left ++ (operator_text operator ++ (signed_decimal right ++ codes " is out of range")))
+failure_text (TooLong most length) =
+    codes " is VARCHAR(" ++ (decimal most ++ (codes "), and the text has " ++ (decimal length ++ codes " characters")))
+
+abbrev pub failure_line : Schema → ℕ → FailedEvaluation → List ℕ
+failure_line s depth f = indent depth ++ (evaluated_text s f.part f.row ++ (failure_text f.failure ++ codes "\n"))
+
 -- ---- entries
 
 -- the next of these entries is an end
@@ -259,6 +307,7 @@ entry_text s outcome depth (Began place) further = began_line depth place (ends_
 entry_text s outcome depth Ended further = []
 entry_text s outcome depth (Faulted fault rows) further = fault_line s outcome depth fault.constraint rows
 entry_text s outcome depth (Disagreed fault rows how) further = conflict_line s depth fault.constraint rows how
+entry_text s outcome depth (Failed f) further = failure_line s depth f
 
 -- The data statement that begins is one deeper, up to its end.
 abbrev pub depth_after : ℕ → Entry → ℕ

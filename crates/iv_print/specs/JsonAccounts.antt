@@ -1,6 +1,7 @@
 -- An account as JSON: an array of entries. The entries of a nested statement are an array in the entry with which it begins.
 use Rattle.std.specs.Prelude.{ℕ, zero, suc, Bool, true, false, if◌then◌else◌, List, [], ◌∷◌, ◌++◌, codes, decimal, slice_get, Option, Some, None, Result, Ok, Err}
 use Rattle.std.specs.List.{flat_map}
+use Rattle.std.specs.Fmt.{signed_decimal}
 use Rattle.iv_value.specs.declared.value.Value.{Value}
 use Rattle.iv_key.specs.Keys.{key_of, none_null}
 use Rattle.iv_expr.specs.declared.row.StoredRow.{StoredRow}
@@ -24,7 +25,16 @@ use Rattle.iv_account.specs.declared.entry.TriggerView.{TriggerView}
 use Rattle.iv_account.specs.declared.entry.SkippedView.{SkippedView}
 use Rattle.iv_account.specs.declared.entry.Disagreement.{Disagreement}
 use Rattle.iv_account.specs.declared.entry.Entry.{Entry}
-use Rattle.iv_account.specs.declared.entry.Entry.TheVariants.{Changed, Acted, Ran, Skipped, Began, Ended, Faulted, Disagreed}
+use Rattle.iv_account.specs.declared.entry.Entry.TheVariants.{Changed, Acted, Ran, Skipped, Began, Ended, Faulted, Disagreed, Failed}
+use Rattle.iv_account.specs.declared.failure.Operator.{Operator}
+use Rattle.iv_account.specs.declared.failure.Operator.TheVariants.{Plus, Minus, Times}
+use Rattle.iv_account.specs.declared.failure.ValueFailure.{ValueFailure}
+use Rattle.iv_account.specs.declared.failure.ValueFailure.TheVariants.{OutOfRange, TooLong}
+use Rattle.iv_account.specs.declared.failure.RowAtHand.{RowAtHand}
+use Rattle.iv_account.specs.declared.failure.RowAtHand.TheVariants as hand
+use Rattle.iv_account.specs.declared.failure.EvaluatedFor.{EvaluatedFor}
+use Rattle.iv_account.specs.declared.failure.EvaluatedFor.TheVariants as part
+use Rattle.iv_account.specs.declared.failure.FailedEvaluation.{FailedEvaluation}
 use Rattle.iv_print.specs.Lines.{name_of, trigger_name}
 use Rattle.iv_print.specs.AccountLines.{column_name_in, depth_after, ends_next, table_name, truth_name}
 use Rattle.iv_print.specs.Json.{json_row, json_text, json_value, json_values, key, member}
@@ -184,6 +194,48 @@ conflict_members s constraint (row ∷ others) how =
     ++ (member (codes "values")
     ++ (json_row row.values ++ (refers_members s row.values constraint ++ settings_members s row.table how)))
 
+-- ---- numbers out of range, and texts that are too long
+
+-- what was evaluated: the value of a column, an item of a SELECT, or a condition
+abbrev pub part_members : Schema → EvaluatedFor → List ℕ
+part_members s (part.Column table column) =
+    member (codes "part")
+    ++ (json_text (codes "column")
+    ++ (member (codes "column_of")
+    ++ (json_text (table_name (slice_get s.tables table))
+    ++ (member (codes "column") ++ json_text (column_name_in (slice_get s.tables table) column)))))
+part_members s (part.Item place) =
+    member (codes "part") ++ (json_text (codes "item") ++ (member (codes "item") ++ decimal place))
+part_members s part.Where = member (codes "part") ++ json_text (codes "where")
+part_members s (part.When id) =
+    member (codes "part")
+    ++ (json_text (codes "when") ++ (member (codes "trigger") ++ json_text (trigger_name (trigger_numbered s id))))
+
+-- a row with its table and number
+abbrev pub stored_members : Schema → StoredRow → List ℕ
+stored_members s r = place_members s r.table r.number ++ (member (codes "values") ++ json_row r.values)
+
+-- the row at hand
+abbrev pub hand_members : Schema → RowAtHand → List ℕ
+hand_members s (hand.Row r) = stored_members s r
+hand_members s (hand.Source r) = stored_members s r
+hand_members s (hand.Variables old new) = side_member (codes "old") old ++ side_member (codes "new") new
+
+abbrev pub operator_sign : Operator → List ℕ
+operator_sign Plus = codes "+"
+operator_sign Minus = codes "-"
+operator_sign Times = codes "*"
+
+-- the two numbers and the operator, or the length of the column and that of the text
+abbrev pub failure_members : ValueFailure → List ℕ
+failure_members (OutOfRange left operator right) =
+    because (codes "out_of_range")
+    ++ (member (codes "left")
+    ++ (signed_decimal left
+    ++ (member (codes "operator") ++ (json_text (operator_sign operator) ++ (member (codes "right") ++ signed_decimal right)))))
+failure_members (TooLong most length) =
+    because (codes "too_long") ++ (member (codes "most") ++ (decimal most ++ (member (codes "length") ++ decimal length)))
+
 -- ---- entries
 
 -- the front of an entry: its kind
@@ -248,6 +300,10 @@ conflict_entry s constraint rows how =
     ++ (json_text (name_of (slice_get s.constraints constraint))
     ++ (conflict_members s (slice_get s.constraints constraint) rows how ++ codes "}")))
 
+abbrev pub failure_entry : Schema → FailedEvaluation → List ℕ
+failure_entry s f =
+    entry_key (codes "failure") ++ (part_members s f.part ++ (hand_members s f.row ++ (failure_members f.failure ++ codes "}")))
+
 -- an entry before these further entries
 abbrev pub json_entry : Schema → Result Answer Refusal → Entry → List Entry → List ℕ
 json_entry s outcome (Changed changes) further = changed_entry s changes
@@ -258,6 +314,7 @@ json_entry s outcome (Began place) further = began_entry place (ends_next furthe
 json_entry s outcome Ended further = codes "]}"
 json_entry s outcome (Faulted fault rows) further = violation_entry s outcome fault.constraint rows
 json_entry s outcome (Disagreed fault rows how) further = conflict_entry s fault.constraint rows how
+json_entry s outcome (Failed f) further = failure_entry s f
 
 -- what stands between an entry and what is before it: a comma, unless it is the first of its array, or ends one
 abbrev pub separator : Bool → Entry → List ℕ

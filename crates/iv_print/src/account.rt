@@ -11,6 +11,7 @@ ghost use Rattle.iv_print.specs.AccountLines.{spaces, indent, table_name, column
 
 use crate::conflict::write_conflict;
 use crate::device::{DeviceFault, Sink};
+use crate::failure::write_failure;
 use crate::outcome::{write_borrowed, write_name, write_row_number, write_trigger, write_values};
 use crate::write::{write_all, write_number};
 use iv_account::{Entry, RowAction, SkippedView, TriggerView};
@@ -42,7 +43,8 @@ pub(crate) fn write_indent<W: Sink>(sink: &mut W, depth: usize) -> Result<(), De
     write_spaces(sink, depth)
 }
 
-fn write_table<W: Sink>(sink: &mut W, table: Option<&Table>) -> Result<(), DeviceFault>
+/// The name of a table, where it is there.
+pub(crate) fn write_table<W: Sink>(sink: &mut W, table: Option<&Table>) -> Result<(), DeviceFault>
     ensures { Writes (W.state sink.old) (W.state sink.new) result
         (table_name (option_copied table.entry)) }
 {
@@ -100,8 +102,12 @@ pub(crate) fn write_listed<W: Sink>(sink: &mut W, values: &[Value]) -> Result<()
     write_all(sink, b")")
 }
 
-// A row after these words, where there is one.
-fn write_side<W: Sink>(sink: &mut W, words: &[u8], side: &Option<Row>) -> Result<(), DeviceFault>
+/// A row after these words, where there is one.
+pub(crate) fn write_side<W: Sink>(
+    sink: &mut W,
+    words: &[u8],
+    side: &Option<Row>,
+) -> Result<(), DeviceFault>
     ensures { Writes (W.state sink.old) (W.state sink.new) result (side_text words.now side.now) }
 {
     match side {
@@ -602,6 +608,7 @@ fn write_entry<W: Sink>(
             rows.as_slice(),
             how,
         ),
+        Entry::Failed(failed) => write_failure(sink, catalogue, depth, failed),
     }
 }
 

@@ -17,6 +17,7 @@ use crate::json::{
     write_row, write_text_member, write_trigger_name,
 };
 use crate::json_conflict::write_conflict;
+use crate::json_failure::write_failure;
 use crate::write::{write_all, write_number};
 use iv_account::{Entry, RowAction, SkippedView, TriggerView};
 use iv_catalogue::{
@@ -30,7 +31,8 @@ use iv_value::{Value, ValueRef};
 
 // ---- rows and changes
 
-fn write_table<W: Sink>(sink: &mut W, table: Option<&Table>) -> Result<(), DeviceFault>
+/// The name of a table, where it is there.
+pub(crate) fn write_table<W: Sink>(sink: &mut W, table: Option<&Table>) -> Result<(), DeviceFault>
     ensures { Writes (W.state sink.old) (W.state sink.new) result
         (json_text (table_name (option_copied table.entry))) }
 {
@@ -55,8 +57,12 @@ pub(crate) fn write_place<W: Sink>(
     write_number_member(sink, b"row", row)
 }
 
-// A row by this name, where there is one.
-fn write_side<W: Sink>(sink: &mut W, name: &[u8], side: &Option<Row>) -> Result<(), DeviceFault>
+/// A row by this name, where there is one.
+pub(crate) fn write_side<W: Sink>(
+    sink: &mut W,
+    name: &[u8],
+    side: &Option<Row>,
+) -> Result<(), DeviceFault>
     ensures { Writes (W.state sink.old) (W.state sink.new) result (side_member name.now side.now) }
 {
     match side {
@@ -666,6 +672,7 @@ fn write_entry<W: Sink>(
         Entry::Disagreed(fault, rows, how) => {
             write_conflict(sink, catalogue, fault.constraint, rows.as_slice(), how)
         }
+        Entry::Failed(failed) => write_failure(sink, catalogue, failed),
     }
 }
 

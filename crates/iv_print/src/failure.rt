@@ -1,0 +1,163 @@
+//! The line of what failed where a number is out of range or a text is too long.
+ghost use Rattle.std.specs.Prelude.{◌≡◌};
+ghost use Rattle.std.specs.Fmt.{signed_decimal};
+ghost use Rattle.iv_account.specs.declared.failure.EvaluatedFor.TheVariants as part;
+ghost use Rattle.iv_print.specs.Writing.{Writes};
+ghost use Rattle.iv_print.specs.AccountLines.{evaluated_text, failure_line, failure_text, operator_text, part_in_table, part_name};
+
+use crate::account::{
+    write_column_in, write_indent, write_listed, write_numbered, write_side, write_table,
+};
+use crate::device::{DeviceFault, Sink};
+use crate::outcome::write_trigger;
+use crate::write::{write_all, write_number};
+use itoa::Buffer;
+use iv_account::{EvaluatedFor, FailedEvaluation, Operator, RowAtHand, ValueFailure};
+use iv_catalogue::Catalogue;
+use iv_expr::TableId;
+
+// The column, the item of a SELECT or the condition that was evaluated.
+fn write_part<W: Sink>(
+    sink: &mut W,
+    catalogue: &Catalogue,
+    part: EvaluatedFor,
+) -> Result<(), DeviceFault>
+    ensures { Writes (W.state sink.old) (W.state sink.new) result (part_name catalogue.now part) }
+{
+    match part {
+        EvaluatedFor::Column(table, column) => {
+            write_column_in(sink, catalogue.table(table), column)
+        }
+        EvaluatedFor::Item(place) => {
+            write_all(sink, b"item ")?;
+            write_number(sink, u64::from(place))
+        }
+        EvaluatedFor::Where => write_all(sink, b"WHERE"),
+        EvaluatedFor::When(id) => {
+            write_all(sink, b"WHEN of trigger")?;
+            write_trigger(sink, catalogue, id)
+        }
+    }
+}
+
+// A column with its table.
+fn write_column_of<W: Sink>(
+    sink: &mut W,
+    catalogue: &Catalogue,
+    table: TableId,
+    column: u32,
+) -> Result<(), DeviceFault>
+    ensures { Writes (W.state sink.old) (W.state sink.new) result
+        (part_in_table catalogue.now (part.Column table column)) }
+{
+    write_column_in(sink, catalogue.table(table), column)?;
+    write_all(sink, b" of ")?;
+    write_table(sink, catalogue.table(table))
+}
+
+// What was evaluated, with the table of a column.
+fn write_part_in_table<W: Sink>(
+    sink: &mut W,
+    catalogue: &Catalogue,
+    part: EvaluatedFor,
+) -> Result<(), DeviceFault>
+    ensures { Writes (W.state sink.old) (W.state sink.new) result
+        (part_in_table catalogue.now part) }
+{
+    match part {
+        EvaluatedFor::Column(table, column) => write_column_of(sink, catalogue, table, column),
+        EvaluatedFor::Item(_) | EvaluatedFor::Where | EvaluatedFor::When(_) => {
+            write_part(sink, catalogue, part)
+        }
+    }
+}
+
+// What was evaluated, and the row at hand.
+fn write_evaluated<W: Sink>(
+    sink: &mut W,
+    catalogue: &Catalogue,
+    part: EvaluatedFor,
+    row: &RowAtHand,
+) -> Result<(), DeviceFault>
+    ensures { Writes (W.state sink.old) (W.state sink.new) result
+        (evaluated_text catalogue.now part row.now) }
+{
+    match row {
+        RowAtHand::Row(row) => {
+            write_part(sink, catalogue, part)?;
+            write_all(sink, b" of ")?;
+            write_numbered(sink, catalogue, row.table, row.number)?;
+            write_listed(sink, row.values.values())
+        }
+        RowAtHand::Source(row) => {
+            write_part_in_table(sink, catalogue, part)?;
+            write_all(sink, b" from ")?;
+            write_numbered(sink, catalogue, row.table, row.number)?;
+            write_listed(sink, row.values.values())
+        }
+        RowAtHand::Variables { old, new } => {
+            write_part_in_table(sink, catalogue, part)?;
+            write_side(sink, b" OLD", old)?;
+            write_side(sink, b" NEW", new)
+        }
+    }
+}
+
+fn operator_text(operator: Operator) -> &'static str
+    ensures { result.now ≡ operator_text operator }
+{
+    match operator {
+        Operator::Plus => " + ",
+        Operator::Minus => " - ",
+        Operator::Times => " * ",
+    }
+}
+
+fn write_integer<W: Sink>(sink: &mut W, number: i64) -> Result<(), DeviceFault>
+    ensures { Writes (W.state sink.old) (W.state sink.new) result (signed_decimal number) }
+{
+    let mut buffer = Buffer::new();
+    write_all(sink, buffer.format(number).as_bytes())
+}
+
+// What failed.
+fn write_value_failure<W: Sink>(sink: &mut W, failure: ValueFailure) -> Result<(), DeviceFault>
+    ensures { Writes (W.state sink.old) (W.state sink.new) result (failure_text failure) }
+{
+    match failure {
+        ValueFailure::OutOfRange {
+            left,
+            operator,
+            right,
+        } => {
+            write_all(sink, b": ")?;
+            write_integer(sink, left)?;
+            write_all(sink, operator_text(operator).as_bytes())?;
+            write_integer(sink, right)?;
+            write_all(sink, b" is out of range")
+        }
+        ValueFailure::TooLong { most, length } => {
+            write_all(sink, b" is VARCHAR(")?;
+            write_number(sink, u64::from(most))?;
+            write_all(sink, b"), and the text has ")?;
+            write_number(sink, length)?;
+            write_all(sink, b" characters")
+        }
+    }
+}
+
+/// The line of what failed.
+pub(crate) fn write_failure<W: Sink>(
+    sink: &mut W,
+    catalogue: &Catalogue,
+    depth: usize,
+    failed: &FailedEvaluation,
+) -> Result<(), DeviceFault>
+    ensures { Writes (W.state sink.old) (W.state sink.new) result
+        (failure_line catalogue.now depth failed.now) }
+{
+    write_indent(sink, depth)?;
+    write_evaluated(sink, catalogue, failed.part, &failed.row)?;
+    write_value_failure(sink, failed.failure)?;
+    write_all(sink, b"\n")
+}

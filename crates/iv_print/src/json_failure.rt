@@ -1,0 +1,151 @@
+//! What failed where a number is out of range or a text is too long, as JSON.
+ghost use Rattle.std.specs.Prelude.{◌≡◌};
+ghost use Rattle.std.specs.Fmt.{signed_decimal};
+ghost use Rattle.iv_account.specs.declared.failure.EvaluatedFor.TheVariants as part;
+ghost use Rattle.iv_print.specs.Writing.{Writes};
+ghost use Rattle.iv_print.specs.JsonAccounts.{failure_entry, failure_members, hand_members, operator_sign, part_members, stored_members};
+
+use crate::device::{DeviceFault, Sink};
+use crate::json::{
+    write_member, write_number_member, write_row, write_text_member, write_trigger_name,
+};
+use crate::json_account::{
+    write_because, write_column_in, write_entry_key, write_place, write_side, write_table,
+};
+use crate::write::write_all;
+use itoa::Buffer;
+use iv_account::{EvaluatedFor, FailedEvaluation, Operator, RowAtHand, ValueFailure};
+use iv_catalogue::Catalogue;
+use iv_expr::{StoredRow, TableId};
+
+// The column whose value was evaluated.
+fn write_column_part<W: Sink>(
+    sink: &mut W,
+    catalogue: &Catalogue,
+    table: TableId,
+    column: u32,
+) -> Result<(), DeviceFault>
+    ensures { Writes (W.state sink.old) (W.state sink.new) result
+        (part_members catalogue.now (part.Column table column)) }
+{
+    write_text_member(sink, b"part", b"column")?;
+    write_member(sink, b"column_of")?;
+    write_table(sink, catalogue.table(table))?;
+    write_member(sink, b"column")?;
+    write_column_in(sink, catalogue.table(table), column)
+}
+
+// What was evaluated.
+fn write_part<W: Sink>(
+    sink: &mut W,
+    catalogue: &Catalogue,
+    part: EvaluatedFor,
+) -> Result<(), DeviceFault>
+    ensures { Writes (W.state sink.old) (W.state sink.new) result
+        (part_members catalogue.now part) }
+{
+    match part {
+        EvaluatedFor::Column(table, column) => write_column_part(sink, catalogue, table, column),
+        EvaluatedFor::Item(place) => {
+            write_text_member(sink, b"part", b"item")?;
+            write_number_member(sink, b"item", u64::from(place))
+        }
+        EvaluatedFor::Where => write_text_member(sink, b"part", b"where"),
+        EvaluatedFor::When(id) => {
+            write_text_member(sink, b"part", b"when")?;
+            write_member(sink, b"trigger")?;
+            write_trigger_name(sink, catalogue, id)
+        }
+    }
+}
+
+// A row with its table and number.
+fn write_stored<W: Sink>(
+    sink: &mut W,
+    catalogue: &Catalogue,
+    row: &StoredRow,
+) -> Result<(), DeviceFault>
+    ensures { Writes (W.state sink.old) (W.state sink.new) result
+        (stored_members catalogue.now row.now) }
+{
+    write_place(sink, catalogue, row.table, row.number)?;
+    write_member(sink, b"values")?;
+    write_row(sink, row.values.values())
+}
+
+// The row at hand.
+fn write_hand<W: Sink>(
+    sink: &mut W,
+    catalogue: &Catalogue,
+    row: &RowAtHand,
+) -> Result<(), DeviceFault>
+    ensures { Writes (W.state sink.old) (W.state sink.new) result
+        (hand_members catalogue.now row.now) }
+{
+    match row {
+        RowAtHand::Row(row) => write_stored(sink, catalogue, row),
+        RowAtHand::Source(row) => write_stored(sink, catalogue, row),
+        RowAtHand::Variables { old, new } => {
+            write_side(sink, b"old", old)?;
+            write_side(sink, b"new", new)
+        }
+    }
+}
+
+fn operator_sign(operator: Operator) -> &'static str
+    ensures { result.now ≡ operator_sign operator }
+{
+    match operator {
+        Operator::Plus => "+",
+        Operator::Minus => "-",
+        Operator::Times => "*",
+    }
+}
+
+fn write_integer<W: Sink>(sink: &mut W, number: i64) -> Result<(), DeviceFault>
+    ensures { Writes (W.state sink.old) (W.state sink.new) result (signed_decimal number) }
+{
+    let mut buffer = Buffer::new();
+    write_all(sink, buffer.format(number).as_bytes())
+}
+
+// What failed.
+fn write_value_failure<W: Sink>(sink: &mut W, failure: ValueFailure) -> Result<(), DeviceFault>
+    ensures { Writes (W.state sink.old) (W.state sink.new) result (failure_members failure) }
+{
+    match failure {
+        ValueFailure::OutOfRange {
+            left,
+            operator,
+            right,
+        } => {
+            write_because(sink, b"out_of_range")?;
+            write_member(sink, b"left")?;
+            write_integer(sink, left)?;
+            write_text_member(sink, b"operator", operator_sign(operator).as_bytes())?;
+            write_member(sink, b"right")?;
+            write_integer(sink, right)
+        }
+        ValueFailure::TooLong { most, length } => {
+            write_because(sink, b"too_long")?;
+            write_number_member(sink, b"most", u64::from(most))?;
+            write_number_member(sink, b"length", length)
+        }
+    }
+}
+
+/// The entry of what failed.
+pub(crate) fn write_failure<W: Sink>(
+    sink: &mut W,
+    catalogue: &Catalogue,
+    failed: &FailedEvaluation,
+) -> Result<(), DeviceFault>
+    ensures { Writes (W.state sink.old) (W.state sink.new) result
+        (failure_entry catalogue.now failed.now) }
+{
+    write_entry_key(sink, b"failure")?;
+    write_part(sink, catalogue, failed.part)?;
+    write_hand(sink, catalogue, &failed.row)?;
+    write_value_failure(sink, failed.failure)?;
+    write_all(sink, b"}")
+}
