@@ -97,16 +97,19 @@ abbrev pub stored_failure : Schema → Scope → ℕ → ℕ → Expr → Option
 stored_failure schema s table column e =
     elim (value s e) [ Ok v ↦ column_failure (column_at schema table column) v | Err fault ↦ expression_failure s e ]
 
--- a failure, with the row at hand and what was evaluated
-abbrev pub failed : RowAtHand → EvaluatedFor → Option ValueFailure → Option FailedEvaluation
-failed row part failure = option_map (λ f. record { row = row; part = part; failure = f }) failure
+-- a failure, with what was evaluated
+abbrev pub of_part : EvaluatedFor → Option ValueFailure → Option (EvaluatedFor × ValueFailure)
+of_part evaluated failure = option_map (λ f. (evaluated, f)) failure
 
 -- the first failure of expressions whose values are for columns of a table, each with its column
-abbrev pub values_failure : Schema → Scope → RowAtHand → ℕ → List (ℕ × Expr) → Option FailedEvaluation
-values_failure schema s row table pairs =
-    first_of (λ p. failed row (part.Column table p.0) (stored_failure schema s table p.0 p.1)) pairs
+abbrev pub values_failure : Schema → Scope → ℕ → List (ℕ × Expr) → Option (EvaluatedFor × ValueFailure)
+values_failure schema s table pairs = first_of (λ p. of_part (part.Column table p.0) (stored_failure schema s table p.0 p.1)) pairs
 
--- ---- rows where a condition is true
+-- ---- rows
+
+-- a failure, with the row at hand
+abbrev pub at_row : RowAtHand → Option (EvaluatedFor × ValueFailure) → Option FailedEvaluation
+at_row row failure = option_map (λ f. record { row = row; part = f.0; failure = f.1 }) failure
 
 -- the first that is there
 abbrev pub or_else : {A : Type 0} → Option A → Option A → Option A
@@ -116,7 +119,8 @@ or_else None other = other
 -- the failure of a condition at a row
 abbrev pub where_failure : Scope → Cond → StoredRow → Option FailedEvaluation
 where_failure s condition r =
-    failed (hand.Row r) part.Where (if_at_fault (truth (within s r.values) condition) (condition_failure (within s r.values) condition))
+    at_row (hand.Row r)
+    (of_part part.Where (if_at_fault (truth (within s r.values) condition) (condition_failure (within s r.values) condition)))
 
 abbrev pub is_true_at : Scope → Cond → StoredRow → Bool
 is_true_at s condition r = elim (truth (within s r.values) condition) [ Ok t ↦ is_true t | Err fault ↦ false ]
@@ -157,11 +161,15 @@ output_expressions (Values expressions) row = expressions
 -- the first failure of the insertion of what a query gives of a row
 abbrev pub insertion_failure : Schema → Scope → ℕ → InsertColumns → Outputs → StoredRow → Option FailedEvaluation
 insertion_failure schema s table listed outputs r =
-    values_failure schema (within s r.values) (hand.Source r) table (by_column listed (output_expressions outputs r.values))
+    at_row (hand.Source r) (values_failure schema (within s r.values) table (by_column listed (output_expressions outputs r.values)))
+
+-- that of the insertion of a tuple of VALUES
+abbrev pub tuple_failure : Schema → Scope → ℕ → InsertColumns → List Expr → Option FailedEvaluation
+tuple_failure schema s table listed tuple = at_row (variables s.frame) (values_failure schema s table (by_column listed tuple))
 
 abbrev pub insertions_failure : Schema → Scope → ℕ → InsertColumns → InsertRows → Option FailedEvaluation
 insertions_failure schema s table listed (rows.Values tuples) =
-    first_of (λ tuple. values_failure schema s (variables s.frame) table (by_column listed tuple)) tuples
+    first_of (tuple_failure schema s table listed) tuples
 insertions_failure schema s table listed (rows.Query outputs range filter) =
     rows_failure s filter (insertion_failure schema s table listed outputs) (stored_rows s range)
 
@@ -171,7 +179,7 @@ set_pairs settings = map (λ s. (s.column, s.value)) settings
 
 -- the first failure of the update of a row
 abbrev pub update_failure : Schema → Scope → ℕ → List Setting → StoredRow → Option FailedEvaluation
-update_failure schema s table settings r = values_failure schema (within s r.values) (hand.Row r) table (set_pairs settings)
+update_failure schema s table settings r = at_row (hand.Row r) (values_failure schema (within s r.values) table (set_pairs settings))
 
 -- The first failure of what a statement proposes.
 abbrev pub proposal_failure : Schema → List StoredRow → Frame → DataStatement → Option FailedEvaluation
@@ -184,23 +192,28 @@ proposal_failure schema rows frame (data_statement.Delete table filter) = first_
 
 -- the failure of a trigger's WHEN
 abbrev pub when_failure : List StoredRow → Trigger → Frame → Option FailedEvaluation
-when_failure rows t frame = failed (variables frame) (part.When t.id) (condition_failure (scope_of frame rows) t.when)
+when_failure rows t frame = at_row (variables frame) (of_part (part.When t.id) (condition_failure (scope_of frame rows) t.when))
 
 -- that of a SET at a change
 abbrev pub set_failure : Schema → List StoredRow → Setting → Change → Option FailedEvaluation
 set_failure schema rows s c =
-    failed (variables (change_frame c)) (part.Column c.table s.column) (stored_failure schema (scope_of (change_frame c) rows) c.table s.column s.value)
+    at_row (variables (change_frame c))
+    (of_part (part.Column c.table s.column) (stored_failure schema (scope_of (change_frame c) rows) c.table s.column s.value))
 
 -- ---- queries
 
--- the first failure of the items that are selected of a row
-abbrev pub items_failure : Scope → Outputs → StoredRow → Option FailedEvaluation
-items_failure s Star r = None
-items_failure s (Values expressions) r =
-    first_of (λ p. failed (hand.Row r) (part.Item p.0) (expression_failure (within s r.values) p.1)) (enumerate_from 1 expressions)
+-- the first failure of the items that are selected
+abbrev pub items_failure : Scope → Outputs → Option (EvaluatedFor × ValueFailure)
+items_failure s Star = None
+items_failure s (Values expressions) =
+    first_of (λ p. of_part (part.Item p.0) (expression_failure s p.1)) (enumerate_from 1 expressions)
+
+-- that of the items that are selected of a row
+abbrev pub selection_failure : Scope → Outputs → StoredRow → Option FailedEvaluation
+selection_failure s outputs r = at_row (hand.Row r) (items_failure (within s r.values) outputs)
 
 -- The first failure of a query.
 abbrev pub query_failure : List StoredRow → QueryPlan → Option FailedEvaluation
 query_failure rows (query.Rows table outputs filter) =
-    rows_failure (scope_of no_frame rows) filter (items_failure (scope_of no_frame rows) outputs) (table_rows rows table)
+    rows_failure (scope_of no_frame rows) filter (selection_failure (scope_of no_frame rows) outputs) (table_rows rows table)
 query_failure rows (query.Count table filter) = first_of (where_failure (scope_of no_frame rows) filter) (table_rows rows table)

@@ -84,8 +84,8 @@ fn ran_or_skipped(
     }
 }
 
-// Whether an account tells what failed where a statement is refused for this cause.
-fn tells_failure(cause: &Cause) -> bool
+/// Whether an account tells what failed where a statement is refused for this cause.
+pub fn tells_failure(cause: &Cause) -> bool
     ensures { result ≡ tells_failure cause.now }
 {
     matches!(cause, Cause::NumberOutOfRange | Cause::TextTooLong)
@@ -153,6 +153,11 @@ impl Account {
         ensures { result ≡ self.now.untold }
     {
         self.untold
+    }
+
+    /// Where it takes its memory from.
+    pub fn allocator(&self) -> Global {
+        *self.entries.allocator()
     }
 
     /// The entries, in order.

@@ -43,9 +43,9 @@ pub enum RowAtHand {
 #[derive(Clone, Copy, Debug, PartialEq, Eq)]
 pub enum EvaluatedFor {
     /// The value of a column, by its table and its place there, from 0.
-    Column(TableId, u32),
+    Column(TableId, u64),
     /// The item at a place of the list of a SELECT, from 1.
-    Item(u32),
+    Item(u64),
     /// The WHERE of a statement.
     Where,
     /// The WHEN of a trigger.

@@ -7,6 +7,6 @@ mod equal;
 mod failure;
 mod fault;
 
-pub use account::Account;
+pub use account::{Account, tells_failure};
 pub use entry::{Disagreement, Entry, RowAction, SkippedView, TriggerView};
 pub use failure::{EvaluatedFor, FailedEvaluation, Operator, RowAtHand, ValueFailure};

@@ -1,20 +1,44 @@
 //! The line of what failed where a number is out of range or a text is too long.
-ghost use Rattle.std.specs.Prelude.{◌≡◌};
+ghost use Rattle.std.specs.Prelude.{◌≡◌, slice_get};
+ghost use Rattle.std.specs.Option.{option_copied};
 ghost use Rattle.std.specs.Fmt.{signed_decimal};
 ghost use Rattle.iv_account.specs.declared.failure.EvaluatedFor.TheVariants as part;
 ghost use Rattle.iv_print.specs.Writing.{Writes};
-ghost use Rattle.iv_print.specs.AccountLines.{evaluated_text, failure_line, failure_text, operator_text, part_in_table, part_name};
+ghost use Rattle.iv_print.specs.AccountLines.{column_name, column_name_in, evaluated_text, failure_line, failure_text, operator_text, part_in_table, part_name};
 
-use crate::account::{
-    write_column_in, write_indent, write_listed, write_numbered, write_side, write_table,
-};
+use crate::account::{write_indent, write_listed, write_numbered, write_side, write_table};
 use crate::device::{DeviceFault, Sink};
 use crate::outcome::write_trigger;
 use crate::write::{write_all, write_number};
 use itoa::Buffer;
 use iv_account::{EvaluatedFor, FailedEvaluation, Operator, RowAtHand, ValueFailure};
-use iv_catalogue::Catalogue;
+use iv_catalogue::{Catalogue, Column, Table};
 use iv_expr::TableId;
+
+fn write_column<W: Sink>(sink: &mut W, columns: &[Column], column: u64) -> Result<(), DeviceFault>
+    ensures { Writes (W.state sink.old) (W.state sink.new) result
+        (column_name (slice_get columns.now column)) }
+{
+    match columns.get(column as usize) {
+        Some(column) => write_all(sink, column.name.as_str().as_bytes()),
+        None => write_all(sink, b""),
+    }
+}
+
+// The name of the column at this place of a table.
+fn write_column_at<W: Sink>(
+    sink: &mut W,
+    table: Option<&Table>,
+    column: u64,
+) -> Result<(), DeviceFault>
+    ensures { Writes (W.state sink.old) (W.state sink.new) result
+        (column_name_in (option_copied table.entry) column) }
+{
+    match table {
+        Some(table) => write_column(sink, table.columns.as_slice(), column),
+        None => write_all(sink, b""),
+    }
+}
 
 // The column, the item of a SELECT or the condition that was evaluated.
 fn write_part<W: Sink>(
@@ -26,11 +50,11 @@ fn write_part<W: Sink>(
 {
     match part {
         EvaluatedFor::Column(table, column) => {
-            write_column_in(sink, catalogue.table(table), column)
+            write_column_at(sink, catalogue.table(table), column)
         }
         EvaluatedFor::Item(place) => {
             write_all(sink, b"item ")?;
-            write_number(sink, u64::from(place))
+            write_number(sink, place)
         }
         EvaluatedFor::Where => write_all(sink, b"WHERE"),
         EvaluatedFor::When(id) => {
@@ -45,12 +69,12 @@ fn write_column_of<W: Sink>(
     sink: &mut W,
     catalogue: &Catalogue,
     table: TableId,
-    column: u32,
+    column: u64,
 ) -> Result<(), DeviceFault>
     ensures { Writes (W.state sink.old) (W.state sink.new) result
         (part_in_table catalogue.now (part.Column table column)) }
 {
-    write_column_in(sink, catalogue.table(table), column)?;
+    write_column_at(sink, catalogue.table(table), column)?;
     write_all(sink, b" of ")?;
     write_table(sink, catalogue.table(table))
 }

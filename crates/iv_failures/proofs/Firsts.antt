@@ -1,0 +1,93 @@
+-- The first that comes of rows, of changes and of a list, found by one look after another.
+use Rattle.std.proofs.Common.{◌≡◌, refl, ◌∙◌, ℕ, ◌+◌, ◌<◌, ◌≤◌, Bool, true, false, if◌then◌else◌, Option, Some, None, option_map, List, [], ◌∷◌, length, drop, map, ap, sym, subst}
+use Rattle.std.specs.Prelude.{filter_map, nat_lt}
+use Rattle.core.specs.List.{cons_option}
+use Rattle.std.specs.List.{enumerate_from}
+use Rattle.std.proofs.lemmas.List.{drop_all}
+use Rattle.iv_value.specs.declared.value.Value.{Value}
+use Rattle.iv_expr.specs.declared.row.StoredRow.{StoredRow}
+use Rattle.iv_expr.specs.Scopes.{Rises, row_above, numbered, contents}
+use Rattle.iv_expr.proofs.Scan.{rows_above, scan_next, scan_none}
+use Rattle.iv_machine.specs.Databases.{first}
+use Rattle.iv_account.specs.Disagreements.{first_of}
+use Rattle.iv_account.proofs.Equals.{AllOn}
+use Rattle.iv_failures.specs.Rows.{of_some}
+
+-- ---- one of a list
+
+-- something comes of the first
+pub comes : {A B : Type 0} (f : A → Option B) (x : A) (xs : List A) (b : B) → f x ≡ Some b → first_of f (x ∷ xs) ≡ Some b
+comes {B = B} f x xs b e = ap (λ (o : Option B). first (cons_option o (filter_map f xs))) e
+
+-- nothing does
+pub passes : {A B : Type 0} (f : A → Option B) (x : A) (xs : List A) → f x ≡ None → first_of f (x ∷ xs) ≡ first_of f xs
+passes {B = B} f x xs e = ap (λ (o : Option B). first (cons_option o (filter_map f xs))) e
+
+-- the next of what is left of a list
+module _ {A B : Type 0} (f : A → Option B) (left rest : List A) (x : A) (said : Option B) (next : left ≡ x ∷ rest) (all : first_of f left ≡ said) where
+  pub list_comes : (b : B) → f x ≡ Some b → Some b ≡ said
+  list_comes b e = sym (ap (first_of f) next ∙ comes f x rest b e) ∙ all
+
+  pub list_passes : f x ≡ None → first_of f rest ≡ said
+  list_passes e = sym (ap (first_of f) next ∙ passes f x rest e) ∙ all
+
+pub list_ends : {A B : Type 0} (f : A → Option B) (left : List A) (said : Option B) → left ≡ [] → first_of f left ≡ said → None ≡ said
+list_ends f left said is all = sym (ap (first_of f) is) ∙ all
+
+-- ---- rows of a table
+
+on_above : (t n : ℕ) (rows : List StoredRow) → AllOn t rows → AllOn t (rows_above n rows)
+on_above t n [] on = tt
+on_above t n (r ∷ rows) on = by (nat_lt n r.number) (on_above t n rows on.1)
+  where
+    by : (b : Bool) → AllOn t (rows_above n rows) → AllOn t (if b then r ∷ rows else rows_above n rows)
+    by true rest = on
+    by false rest = rest
+
+-- what a scan found, as a row of the table
+pub scanned : (t n : ℕ) (rows : List StoredRow) (p : ℕ × List Value) → AllOn t rows → Rises 0 rows → Some p ≡ option_map numbered (row_above n rows)
+    → rows_above n rows ≡ record { table = t; number = p.0; values = p.1 } ∷ rows_above p.0 rows
+scanned t n rows p on up h =
+    let f = scan_next n rows p up h in
+    let here : AllOn t (f.0 ∷ rows_above p.0 rows) = subst (AllOn t) f.1 (on_above t n rows on) in
+    let same : f.0 ≡ record { table = t; number = p.0; values = p.1 } = λ i. record { table = here.0 i; number = f.2 i; values = f.3 i } in
+    f.1 ∙ ap (λ (r : StoredRow). r ∷ rows_above p.0 rows) same
+
+-- the values of the rows
+pub values_scanned : (n : ℕ) (rows : List StoredRow) (p : ℕ × List Value) → Rises 0 rows → Some p ≡ option_map numbered (row_above n rows)
+    → contents (rows_above n rows) ≡ p.1 ∷ contents (rows_above p.0 rows)
+values_scanned n rows p up h =
+    let f = scan_next n rows p up h in
+    ap contents f.1 ∙ ap (λ (row : List Value). row ∷ contents (rows_above p.0 rows)) f.3
+
+-- ---- one side of changes
+
+module _ {A B C : Type 0} (f : B → Option C) (g : A → Option B) (left rest : List A) (x : A) (said : Option C) (next : left ≡ x ∷ rest)
+    (all : first_of f (filter_map g left) ≡ said) where
+  side_comes : (o : Option B) (c : C) → of_some f o ≡ Some c → first_of f (cons_option o (filter_map g rest)) ≡ Some c
+  side_comes None c e = cc
+  side_comes (Some b) c e = comes f b (filter_map g rest) c e
+
+  side_passes : (o : Option B) → of_some f o ≡ None → first_of f (cons_option o (filter_map g rest)) ≡ first_of f (filter_map g rest)
+  side_passes None e = refl
+  side_passes (Some b) e = passes f b (filter_map g rest) e
+
+  pub sides_come : (c : C) → of_some f (g x) ≡ Some c → Some c ≡ said
+  sides_come c e = sym (ap (λ (l : List A). first_of f (filter_map g l)) next ∙ side_comes (g x) c e) ∙ all
+
+  pub sides_pass : of_some f (g x) ≡ None → first_of f (filter_map g rest) ≡ said
+  sides_pass e = sym (ap (λ (l : List A). first_of f (filter_map g l)) next ∙ side_passes (g x) e) ∙ all
+
+pub sides_end : {A B C : Type 0} (f : B → Option C) (g : A → Option B) (left : List A) (said : Option C) → left ≡ []
+    → first_of f (filter_map g left) ≡ said → None ≡ said
+sides_end f g left said is all = sym (ap (λ (l : List _). first_of f (filter_map g l)) is) ∙ all
+
+-- ---- a list with its places
+
+module _ {A B : Type 0} (f : ℕ × A → Option B) (n : ℕ) (left rest : List A) (x : A) (said : Option B) (next : left ≡ x ∷ rest)
+    (all : first_of f (enumerate_from n left) ≡ said) where
+  pub placed_comes : (b : B) → f (n, x) ≡ Some b → Some b ≡ said
+  placed_comes b e = list_comes f (enumerate_from n left) (enumerate_from (n + 1) rest) (n, x) said (ap (enumerate_from n) next) all b e
+
+  pub placed_passes : f (n, x) ≡ None → first_of f (enumerate_from (n + 1) rest) ≡ said
+  placed_passes e = list_passes f (enumerate_from n left) (enumerate_from (n + 1) rest) (n, x) said (ap (enumerate_from n) next) all e

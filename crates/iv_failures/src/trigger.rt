@@ -1,0 +1,49 @@
+//! What fails in the WHEN of a trigger and in a SET.
+ghost use Rattle.std.specs.Prelude.{◌≡◌, IfOk};
+ghost use Rattle.iv_account.specs.Failures.{set_failure, when_failure};
+
+use crate::condition::condition_failure;
+use crate::hands::at_variables;
+use crate::values::{of_part, stored_failure};
+use iv_account::{EvaluatedFor, FailedEvaluation};
+use iv_catalogue::{Catalogue, Setting, Trigger};
+use iv_expr::{Change, Frame, Rows, Scope};
+use std::alloc::{AllocError, Global};
+
+/// The failure of a trigger's WHEN.
+pub fn when_failure<'x, R: Rows>(
+    alloc: Global,
+    rows: &'x R,
+    trigger: &Trigger,
+    frame: &'x Frame<'x>,
+) -> Result<Option<FailedEvaluation>, AllocError>
+    ensures { IfOk result (λ f. f ≡ when_failure (R.rows rows.now) trigger.now frame.now) }
+{
+    let scope = Scope::new(rows, frame);
+    let failure = of_part(
+        EvaluatedFor::When(trigger.id),
+        condition_failure(&trigger.when, &scope),
+    );
+    at_variables(alloc, &scope, failure)
+}
+
+/// The failure of a SET at a change.
+pub fn set_failure<'x, R: Rows>(
+    alloc: Global,
+    catalogue: &Catalogue,
+    rows: &'x R,
+    setting: &Setting,
+    change: &'x Change,
+) -> Result<Option<FailedEvaluation>, AllocError>
+    ensures { IfOk result (λ f. f
+        ≡ set_failure catalogue.now (R.rows rows.now) setting.now change.now) }
+{
+    let frame = Frame::at(&[], change);
+    let scope = Scope::new(rows, &frame);
+    let column = u64::from(setting.column);
+    let failure = of_part(
+        EvaluatedFor::Column(change.table, column),
+        stored_failure(catalogue, &scope, change.table, column, &setting.value),
+    );
+    at_variables(alloc, &scope, failure)
+}
