@@ -31,9 +31,8 @@ use crate::matching::{
 use crate::when::{is_true, truth_of_when};
 use iv_account::Account;
 use iv_catalogue::{BodyStatement, Cause, DataStatement, Refusal, Setting, Trigger};
-use iv_exec_context::{Context, stored_value};
+use iv_exec_context::{Context, stored_value, tell_set, tell_when};
 use iv_expr::{Change, Frame, Row, Rows, Scope, TableColumn};
-use iv_failures::{tell_set, tell_when};
 use iv_value::{Truth, Value};
 use std::alloc::{AllocError, Global};
 

@@ -1,1 +1,4 @@
 pub mod Answers
+pub mod Failing
+pub mod Firsts
+pub mod Untold

@@ -62,7 +62,7 @@ fn in_operands(
 }
 
 /// The first operation of an expression that fails. It allocates nothing.
-#[tactic(auto, using(crate::proofs::Steps::plus_failure, crate::proofs::Steps::minus_failure, crate::proofs::Steps::times_failure))]
+#[tactic(auto, using(crate::proofs::Failing::plus_failure, crate::proofs::Failing::minus_failure, crate::proofs::Failing::times_failure))]
 pub fn expression_failure<R: Rows>(expression: &Expr, scope: &Scope<'_, R>) -> Option<ValueFailure>
     ensures { result ≡ expression_failure scope.now expression.now }
 {

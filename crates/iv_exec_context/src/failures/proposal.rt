@@ -4,10 +4,10 @@ ghost use Rattle.iv_expr.specs.Scopes.{table_rows};
 ghost use Rattle.iv_account.specs.Disagreements.{first_of};
 ghost use Rattle.iv_account.specs.Failures.{if_true_at, proposal_failure, rows_failure, update_failure};
 
-use crate::hands::at_row;
-use crate::insertions::insertions_failure;
-use crate::values::settings_failure;
-use crate::wheres::{is_true_at, where_in_table};
+use crate::failures::hands::at_row;
+use crate::failures::insertions::insertions_failure;
+use crate::failures::values::settings_failure;
+use crate::failures::wheres::{is_true_at, where_in_table};
 use iv_account::FailedEvaluation;
 use iv_catalogue::{Catalogue, DataStatement, Setting};
 use iv_expr::{Cond, Frame, Rows, Scope, TableId};

@@ -10,7 +10,7 @@ ghost use Rattle.iv_account.specs.declared.failure.EvaluatedFor.TheVariants as p
 ghost use Rattle.iv_account.specs.declared.failure.ValueFailure.TheVariants as failed;
 ghost use Rattle.iv_account.specs.Failures.{by_column, column_failure, of_part, output_expressions, set_pairs, stored_failure, text_failure, values_failure};
 
-use crate::expression::expression_failure;
+use crate::failures::expression::expression_failure;
 use iv_account::{EvaluatedFor, ValueFailure};
 use iv_catalogue::{Catalogue, Column, InsertColumns, Outputs, Setting};
 use iv_expr::{Expr, Rows, Scope, TableId, eval_ref};
@@ -19,11 +19,18 @@ use iv_value::{Kind, Value, ValueRef};
 /// What failed, and what it was evaluated for.
 pub type PartFailure = (EvaluatedFor, ValueFailure);
 
+// The count of a text's characters.
+fn length_of(text: &str) -> usize
+    ensures { result ≡ length (chars text.now) }
+{
+    text.chars().count()
+}
+
 fn length_failure(text: &str, most: u16) -> Option<ValueFailure>
     ensures { result ≡ if nat_le (length (chars text.now)) most then None
         else Some (failed.TooLong most (length (chars text.now))) }
 {
-    let length = text.chars().count();
+    let length = length_of(text);
     if length <= most as usize {
         None
     } else {

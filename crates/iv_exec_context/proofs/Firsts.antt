@@ -1,7 +1,6 @@
 -- The first that comes of rows, of changes and of a list, found by one look after another.
 use Rattle.std.proofs.Common.{◌≡◌, refl, ◌∙◌, ℕ, ◌+◌, ◌<◌, ◌≤◌, Bool, true, false, if◌then◌else◌, Option, Some, None, option_map, List, [], ◌∷◌, length, drop, map, ap, sym, subst}
 use Rattle.std.specs.Prelude.{filter_map, nat_lt}
-use Rattle.core.specs.List.{cons_option}
 use Rattle.std.specs.List.{enumerate_from}
 use Rattle.std.proofs.lemmas.List.{drop_all}
 use Rattle.iv_value.specs.declared.value.Value.{Value}
@@ -11,17 +10,17 @@ use Rattle.iv_expr.proofs.Scan.{rows_above, scan_next, scan_none}
 use Rattle.iv_machine.specs.Databases.{first}
 use Rattle.iv_account.specs.Disagreements.{first_of}
 use Rattle.iv_account.proofs.Equals.{AllOn}
-use Rattle.iv_failures.specs.Rows.{of_some}
+use Rattle.iv_exec_context.specs.Sides.{of_some}
 
 -- ---- one of a list
 
 -- something comes of the first
 pub comes : {A B : Type 0} (f : A → Option B) (x : A) (xs : List A) (b : B) → f x ≡ Some b → first_of f (x ∷ xs) ≡ Some b
-comes {B = B} f x xs b e = ap (λ (o : Option B). first (cons_option o (filter_map f xs))) e
+comes f x xs b e = rw e refl
 
 -- nothing does
 pub passes : {A B : Type 0} (f : A → Option B) (x : A) (xs : List A) → f x ≡ None → first_of f (x ∷ xs) ≡ first_of f xs
-passes {B = B} f x xs e = ap (λ (o : Option B). first (cons_option o (filter_map f xs))) e
+passes f x xs e = rw e refl
 
 -- the next of what is left of a list
 module _ {A B : Type 0} (f : A → Option B) (left rest : List A) (x : A) (said : Option B) (next : left ≡ x ∷ rest) (all : first_of f left ≡ said) where
@@ -64,23 +63,23 @@ values_scanned n rows p up h =
 
 module _ {A B C : Type 0} (f : B → Option C) (g : A → Option B) (left rest : List A) (x : A) (said : Option C) (next : left ≡ x ∷ rest)
     (all : first_of f (filter_map g left) ≡ said) where
-  side_comes : (o : Option B) (c : C) → of_some f o ≡ Some c → first_of f (cons_option o (filter_map g rest)) ≡ Some c
-  side_comes None c e = cc
-  side_comes (Some b) c e = comes f b (filter_map g rest) c e
+  side_comes : (o : Option B) (c : C) → g x ≡ o → of_some f o ≡ Some c → first_of f (filter_map g (x ∷ rest)) ≡ Some c
+  side_comes None c is e = cc
+  side_comes (Some b) c is e = rw is (comes f b (filter_map g rest) c e)
 
-  side_passes : (o : Option B) → of_some f o ≡ None → first_of f (cons_option o (filter_map g rest)) ≡ first_of f (filter_map g rest)
-  side_passes None e = refl
-  side_passes (Some b) e = passes f b (filter_map g rest) e
+  side_passes : (o : Option B) → g x ≡ o → of_some f o ≡ None → first_of f (filter_map g (x ∷ rest)) ≡ first_of f (filter_map g rest)
+  side_passes None is e = rw is refl
+  side_passes (Some b) is e = rw is (passes f b (filter_map g rest) e)
 
   pub sides_come : (c : C) → of_some f (g x) ≡ Some c → Some c ≡ said
-  sides_come c e = sym (ap (λ (l : List A). first_of f (filter_map g l)) next ∙ side_comes (g x) c e) ∙ all
+  sides_come c e = sym (ap (λ (l : List A). first_of f (filter_map g l)) next ∙ side_comes (g x) c refl e) ∙ all
 
   pub sides_pass : of_some f (g x) ≡ None → first_of f (filter_map g rest) ≡ said
-  sides_pass e = sym (ap (λ (l : List A). first_of f (filter_map g l)) next ∙ side_passes (g x) e) ∙ all
+  sides_pass e = sym (ap (λ (l : List A). first_of f (filter_map g l)) next ∙ side_passes (g x) refl e) ∙ all
 
 pub sides_end : {A B C : Type 0} (f : B → Option C) (g : A → Option B) (left : List A) (said : Option C) → left ≡ []
     → first_of f (filter_map g left) ≡ said → None ≡ said
-sides_end f g left said is all = sym (ap (λ (l : List _). first_of f (filter_map g l)) is) ∙ all
+sides_end {A = A} f g left said is all = sym (ap (λ (l : List A). first_of f (filter_map g l)) is) ∙ all
 
 -- ---- a list with its places
 

@@ -5,10 +5,10 @@ ghost use Rattle.iv_expr.specs.References.{result_of};
 ghost use Rattle.iv_expr.specs.Scopes.{contents, table_rows, transition_rows, within};
 ghost use Rattle.iv_account.specs.Disagreements.{first_of};
 ghost use Rattle.iv_account.specs.Failures.{condition_failure, if_at_fault, in_parts, nothing};
-ghost use Rattle.iv_failures.specs.Rows.{of_some};
+ghost use Rattle.iv_exec_context.specs.Sides.{of_some};
 ghost use Rattle.iv_expr.specs.Scopes.{side_of};
 
-use crate::expression::expression_failure;
+use crate::failures::expression::expression_failure;
 use iv_account::ValueFailure;
 use iv_expr::{Change, Cond, ExprFault, Range, Rows, Scope, Side, TableId, eval_ref, truth};
 use iv_value::{Truth, Value, ValueRef};
@@ -48,7 +48,7 @@ fn in_truths(
 
 /// The first operation of a condition that fails. It allocates only for searches by key.
 #[cycle(condition_failure)]
-#[tactic(auto, using(crate::proofs::Steps::not_failure, crate::proofs::Steps::and_failure, crate::proofs::Steps::or_failure, crate::proofs::Steps::exists_failure))]
+#[tactic(auto, using(crate::proofs::Failing::not_failure, crate::proofs::Failing::and_failure, crate::proofs::Failing::or_failure, crate::proofs::Failing::exists_failure))]
 pub fn condition_failure<R: Rows>(condition: &Cond, scope: &Scope<'_, R>) -> Option<ValueFailure>
     ensures { result ≡ condition_failure scope.now condition.now }
 {

@@ -3,11 +3,11 @@ ghost use Rattle.std.specs.Prelude.{◌≡◌, IfOk, filter_map};
 ghost use Rattle.iv_expr.specs.Scopes.{table_rows};
 ghost use Rattle.iv_account.specs.Disagreements.{first_of};
 ghost use Rattle.iv_account.specs.Failures.{if_true_at, insertion_failure, insertions_failure, rows_failure, stored_rows, stored_side, tuple_failure};
-ghost use Rattle.iv_failures.specs.Rows.{of_some};
+ghost use Rattle.iv_exec_context.specs.Sides.{of_some};
 
-use crate::hands::{at_source, at_variables};
-use crate::values::{expressions_failure, outputs_failure};
-use crate::wheres::{is_true_at, side_values, where_at_sides, where_in_table};
+use crate::failures::hands::{at_source, at_variables};
+use crate::failures::values::{expressions_failure, outputs_failure};
+use crate::failures::wheres::{is_true_at, side_values, where_at_sides, where_in_table};
 use iv_account::FailedEvaluation;
 use iv_catalogue::{Catalogue, InsertColumns, InsertRows, Outputs};
 use iv_expr::{Change, Cond, Expr, Range, Rows, Scope, Side, TableId};

@@ -4,11 +4,18 @@ ghost use Rattle.std.specs.Option.{option_copied};
 ghost use Rattle.iv_account.specs.declared.failure.RowAtHand.TheVariants as hand;
 ghost use Rattle.iv_account.specs.Failures.{at_row, variables};
 
-use crate::values::PartFailure;
-use iv_account::{FailedEvaluation, RowAtHand, row_of};
+use crate::failures::values::PartFailure;
+use iv_account::{FailedEvaluation, RowAtHand};
 use iv_expr::{Row, Rows, Scope, Side, StoredRow, TableId};
 use iv_value::Value;
 use std::alloc::{AllocError, Global};
+
+fn row_of(alloc: Global, values: &[Value]) -> Result<Row, AllocError>
+    ensures { IfOk result (λ r. r ≡ values.now) }
+{
+    let copies = values.to_vec(alloc)?;
+    Row::new(copies)
+}
 
 fn stored(
     alloc: Global,

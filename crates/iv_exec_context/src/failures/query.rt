@@ -6,10 +6,10 @@ ghost use Rattle.iv_account.specs.Disagreements.{first_of};
 ghost use Rattle.iv_account.specs.declared.failure.EvaluatedFor.TheVariants as part_of;
 ghost use Rattle.iv_account.specs.Failures.{expression_failure, if_true_at, items_failure, of_part, query_failure, rows_failure, selection_failure};
 
-use crate::expression::expression_failure;
-use crate::hands::at_row;
-use crate::values::{PartFailure, of_part};
-use crate::wheres::{is_true_at, where_in_table};
+use crate::failures::expression::expression_failure;
+use crate::failures::hands::at_row;
+use crate::failures::values::{PartFailure, of_part};
+use crate::failures::wheres::{is_true_at, where_in_table};
 use iv_account::{EvaluatedFor, FailedEvaluation};
 use iv_catalogue::{Outputs, QueryPlan};
 use iv_expr::{Cond, Expr, Frame, Rows, Scope, TableId};

@@ -5,11 +5,11 @@ ghost use Rattle.iv_expr.specs.Evaluation.{truth as truth_at};
 ghost use Rattle.iv_expr.specs.Scopes.{side_of, table_rows, within};
 ghost use Rattle.iv_account.specs.Disagreements.{first_of};
 ghost use Rattle.iv_account.specs.Failures.{condition_failure, if_at_fault, is_true_at, stored_side, where_failure};
-ghost use Rattle.iv_failures.specs.Rows.{of_some};
+ghost use Rattle.iv_exec_context.specs.Sides.{of_some};
 
-use crate::condition::condition_failure;
-use crate::hands::at_row;
-use crate::values::of_part;
+use crate::failures::condition::condition_failure;
+use crate::failures::hands::at_row;
+use crate::failures::values::of_part;
 use iv_account::{EvaluatedFor, FailedEvaluation, ValueFailure};
 use iv_expr::{Change, Cond, Rows, Scope, Side, TableId, truth, truth_at_row};
 use iv_value::{Truth, Value};

@@ -5,9 +5,9 @@ ghost use Rattle.iv_account.specs.Failures.{proposal_failure, query_failure, set
 ghost use Rattle.iv_account.specs.Telling.{and_told};
 ghost use Rattle.iv_account.specs.declared.failure.FailedEvaluation.{FailedEvaluation as Failed};
 
-use crate::proposal::proposal_failure;
-use crate::query::query_failure;
-use crate::trigger::{set_failure, when_failure};
+use crate::failures::proposal::proposal_failure;
+use crate::failures::query::query_failure;
+use crate::failures::trigger::{set_failure, when_failure};
 use iv_account::{Account, tells_failure};
 use iv_catalogue::{Catalogue, Cause, DataStatement, QueryPlan, Setting, Trigger};
 use iv_expr::{Change, Frame, Rows};

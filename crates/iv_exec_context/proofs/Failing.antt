@@ -1,8 +1,10 @@
 -- What fails at the trees that code matches.
 use Rattle.std.proofs.Common.{◌≡◌, refl}
-use Rattle.iv_expr.specs.Types.{Expr, Cond, Range}
-use Rattle.iv_expr.specs.Types.expr.{Plus, Minus, Times}
-use Rattle.iv_expr.specs.Types.cond.{Not, And, Or, Exists}
+use Rattle.iv_expr.specs.declared.tree.Expr.{Expr}
+use Rattle.iv_expr.specs.declared.tree.Expr.TheVariants.{Plus, Minus, Times}
+use Rattle.iv_expr.specs.declared.tree.Cond.{Cond}
+use Rattle.iv_expr.specs.declared.tree.Cond.TheVariants.{Not, And, Or, Exists}
+use Rattle.iv_expr.specs.declared.tree.Range.{Range}
 use Rattle.iv_expr.specs.Evaluation.{value, truth}
 use Rattle.iv_expr.specs.Scopes.{Scope, within, range_rows}
 use Rattle.iv_expr.proofs.Trees.{plus_is, minus_is, times_is, not_is, and_is, or_is, exists_is}

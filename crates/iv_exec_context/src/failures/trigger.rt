@@ -2,9 +2,9 @@
 ghost use Rattle.std.specs.Prelude.{◌≡◌, IfOk};
 ghost use Rattle.iv_account.specs.Failures.{set_failure, when_failure};
 
-use crate::condition::condition_failure;
-use crate::hands::at_variables;
-use crate::values::{of_part, stored_failure};
+use crate::failures::condition::condition_failure;
+use crate::failures::hands::at_variables;
+use crate::failures::values::{of_part, stored_failure};
 use iv_account::{EvaluatedFor, FailedEvaluation};
 use iv_catalogue::{Catalogue, Setting, Trigger};
 use iv_expr::{Change, Frame, Rows, Scope};

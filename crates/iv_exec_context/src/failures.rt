@@ -1,6 +1,4 @@
-//! What failed where a number is out of range or a text is too long: the walk that finds it again for an account.
-#![tactic(auto)]
-
+//! What failed where a number is out of range or a text is too long: a second walk finds it for an account.
 mod condition;
 mod expression;
 mod hands;
