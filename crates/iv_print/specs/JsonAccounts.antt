@@ -215,10 +215,10 @@ part_members s (part.When id) =
 abbrev pub stored_members : Schema → StoredRow → List ℕ
 stored_members s r = place_members s r.table r.number ++ (member (codes "values") ++ json_row r.values)
 
--- the row at hand
+-- the row at hand; it is said of one from which an INSERT takes its values
 abbrev pub hand_members : Schema → RowAtHand → List ℕ
 hand_members s (hand.Row r) = stored_members s r
-hand_members s (hand.Source r) = stored_members s r
+hand_members s (hand.Source r) = member (codes "source") ++ (codes "true" ++ stored_members s r)
 hand_members s (hand.Variables old new) = side_member (codes "old") old ++ side_member (codes "new") new
 
 abbrev pub operator_sign : Operator → List ℕ

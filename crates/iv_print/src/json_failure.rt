@@ -3,6 +3,7 @@ ghost use Rattle.std.specs.Prelude.{◌≡◌, slice_get};
 ghost use Rattle.std.specs.Option.{option_copied};
 ghost use Rattle.std.specs.Fmt.{signed_decimal};
 ghost use Rattle.iv_account.specs.declared.failure.EvaluatedFor.TheVariants as part;
+ghost use Rattle.iv_account.specs.declared.failure.RowAtHand.TheVariants as hand;
 ghost use Rattle.iv_print.specs.Writing.{Writes};
 ghost use Rattle.iv_print.specs.AccountLines.{column_name, column_name_in};
 ghost use Rattle.iv_print.specs.Json.{json_text};
@@ -100,6 +101,20 @@ fn write_stored<W: Sink>(
     write_row(sink, row.values.values())
 }
 
+// A row from which an INSERT takes its values.
+fn write_source<W: Sink>(
+    sink: &mut W,
+    catalogue: &Catalogue,
+    row: &StoredRow,
+) -> Result<(), DeviceFault>
+    ensures { Writes (W.state sink.old) (W.state sink.new) result
+        (hand_members catalogue.now (hand.Source row.now)) }
+{
+    write_member(sink, b"source")?;
+    write_all(sink, b"true")?;
+    write_stored(sink, catalogue, row)
+}
+
 // The row at hand.
 fn write_hand<W: Sink>(
     sink: &mut W,
@@ -111,7 +126,7 @@ fn write_hand<W: Sink>(
 {
     match row {
         RowAtHand::Row(row) => write_stored(sink, catalogue, row),
-        RowAtHand::Source(row) => write_stored(sink, catalogue, row),
+        RowAtHand::Source(row) => write_source(sink, catalogue, row),
         RowAtHand::Variables { old, new } => {
             write_side(sink, b"old", old)?;
             write_side(sink, b"new", new)
