@@ -115,6 +115,26 @@ def asked_text(entry):
     return 'trigger ' + entry['trigger'] + listed(' OLD', entry.get('old')) + listed(' NEW', entry.get('new'))
 
 
+def part_text(entry):
+    """What was evaluated, with the table of a column."""
+    return {
+        'column': '%s of %s' % (entry.get('column'), entry.get('column_of')),
+        'item': 'item %s' % entry.get('item'),
+        'where': 'WHERE',
+        'when': 'WHEN of trigger %s' % entry.get('trigger')}[entry['part']]
+
+
+def failure_text(entry):
+    if 'table' not in entry:
+        front = part_text(entry) + listed(' OLD', entry.get('old')) + listed(' NEW', entry.get('new'))
+    else:
+        part = part_text(entry) + ' from' if entry.get('source') else part_text(entry).removesuffix(' of %s' % entry.get('column_of')) + ' of'
+        front = '%s %s row %d%s' % (part, entry['table'], entry['row'], listed('', entry['values']))
+    if entry['because'] == 'too_long':
+        return '%s is VARCHAR(%d), and the text has %d characters' % (front, entry['most'], entry['length'])
+    return '%s: %d %s %d is out of range' % (front, entry['left'], entry['operator'], entry['right'])
+
+
 def entry_lines(entry):
     """The lines of an entry, without the indentation of what is around it."""
     if entry['entry'] == 'changes':
@@ -128,6 +148,8 @@ def entry_lines(entry):
     if entry['entry'] == 'statement':
         line = 'statement %d' % entry['number'] + (' changes nothing' if entry.get('changes_nothing') else '')
         return [line, *('  ' + line for line in account_lines(entry['account']))]
+    if entry['entry'] == 'failure':
+        return [failure_text(entry)]
     row = '%(constraint)s: %(table)s row %(row)d' % entry
     return [row + listed('', entry['values']) + reason_text(entry)]
 
