@@ -1,15 +1,13 @@
 -- The first that comes of rows, of changes and of a list, found by one look after another.
-use Rattle.std.proofs.Common.{◌≡◌, refl, ◌∙◌, ℕ, ◌+◌, ◌<◌, ◌≤◌, Bool, true, false, if◌then◌else◌, Option, Some, None, option_map, List, [], ◌∷◌, length, drop, map, ap, sym, subst}
+use Rattle.std.proofs.Common.{◌≡◌, refl, ◌∙◌, ℕ, ◌+◌, Bool, true, false, if◌then◌else◌, Option, Some, None, option_map, List, [], ◌∷◌, ap, sym, subst, arith}
 use Rattle.std.specs.Prelude.{filter_map, nat_lt}
 use Rattle.std.specs.List.{enumerate_from}
-use Rattle.std.proofs.lemmas.List.{drop_all}
 use Rattle.iv_value.specs.declared.value.Value.{Value}
 use Rattle.iv_expr.specs.declared.row.StoredRow.{StoredRow}
-use Rattle.iv_expr.specs.Scopes.{Rises, row_above, numbered, contents}
-use Rattle.iv_expr.proofs.Scan.{rows_above, scan_next, scan_none}
-use Rattle.iv_machine.specs.Databases.{first}
+use Rattle.iv_expr.specs.Scopes.{Rises, row_above, numbered, contents, table_rows}
+use Rattle.iv_expr.proofs.Scan.{above_all, rows_above, scan_next, scan_none, table_rises}
 use Rattle.iv_account.specs.Disagreements.{first_of}
-use Rattle.iv_account.proofs.Equals.{AllOn}
+use Rattle.iv_account.proofs.Equals.{AllOn, searched_on}
 use Rattle.iv_exec_context.specs.Sides.{of_some}
 
 -- ---- one of a list
@@ -58,6 +56,30 @@ pub values_scanned : (n : ℕ) (rows : List StoredRow) (p : ℕ × List Value) �
 values_scanned n rows p up h =
     let f = scan_next n rows p up h in
     ap contents f.1 ∙ ap (λ (row : List Value). row ∷ contents (rows_above p.0 rows)) f.3
+
+-- the rows of a table before any look
+pub scan_begins : {B : Type 0} (f : StoredRow → Option B) (t : ℕ) (all : List StoredRow) → Rises 0 all
+    → first_of f (rows_above 0 (table_rows all t)) ≡ first_of f (table_rows all t)
+scan_begins f t all up = ap (first_of f) (above_all 0 0 (table_rows all t) (table_rises 0 t all up) (omega arith))
+
+-- one look further
+module _ {B : Type 0} (f : StoredRow → Option B) (t n : ℕ) (all : List StoredRow) (p : ℕ × List Value) (up : Rises 0 all)
+    (found : Some p ≡ option_map numbered (row_above n (table_rows all t))) (said : Option B) (so_far : first_of f (rows_above n (table_rows all t)) ≡ said) where
+  next : rows_above n (table_rows all t) ≡ record { table = t; number = p.0; values = p.1 } ∷ rows_above p.0 (table_rows all t)
+  next = scanned t n (table_rows all t) p (searched_on None t all) (table_rises 0 t all up) found
+
+  pub scan_comes : (b : B) → f (record { table = t; number = p.0; values = p.1 }) ≡ Some b → Some b ≡ said
+  scan_comes b e =
+      list_comes f (rows_above n (table_rows all t)) (rows_above p.0 (table_rows all t)) (record { table = t; number = p.0; values = p.1 }) said next so_far b e
+
+  pub scan_passes : f (record { table = t; number = p.0; values = p.1 }) ≡ None → first_of f (rows_above p.0 (table_rows all t)) ≡ said
+  scan_passes e =
+      list_passes f (rows_above n (table_rows all t)) (rows_above p.0 (table_rows all t)) (record { table = t; number = p.0; values = p.1 }) said next so_far e
+
+-- no row is left
+pub scan_ends : {B : Type 0} (f : StoredRow → Option B) (n : ℕ) (rows : List StoredRow) (said : Option B) → None ≡ option_map numbered (row_above n rows)
+    → first_of f (rows_above n rows) ≡ said → None ≡ said
+scan_ends f n rows said h so_far = list_ends f (rows_above n rows) said (scan_none n rows h) so_far
 
 -- ---- one side of changes
 
