@@ -2,3 +2,4 @@ pub mod Answers
 pub mod Failing
 pub mod Firsts
 pub mod Untold
+pub mod Copies

@@ -3,6 +3,7 @@ ghost use Rattle.std.specs.Prelude.{◌≡◌, IfOk};
 ghost use Rattle.std.specs.List.{enumerate_from};
 ghost use Rattle.iv_expr.specs.Scopes.{no_frame, scope_of, table_rows, within};
 ghost use Rattle.iv_account.specs.Disagreements.{first_of};
+ghost use Rattle.iv_exec_context.specs.Sides.{placed_failure};
 ghost use Rattle.iv_account.specs.declared.failure.EvaluatedFor.TheVariants as part_of;
 ghost use Rattle.iv_account.specs.Failures.{expression_failure, if_true_at, items_failure, of_part, query_failure, rows_failure, selection_failure};
 
@@ -28,9 +29,7 @@ fn of_item<R: Rows>(scope: &Scope<'_, R>, place: u64, expression: &Expr) -> Opti
 
 // The first failure of items.
 fn in_items<R: Rows>(scope: &Scope<'_, R>, expressions: &[Expr]) -> Option<PartFailure>
-    ensures { result ≡ first_of
-        (λ p. of_part (part_of.Item p.0) (expression_failure scope.now p.1))
-        (enumerate_from 1 expressions.now) }
+    ensures { result ≡ placed_failure scope.now (enumerate_from 1 expressions.now) }
 {
     let mut at = 0usize;
     while at < expressions.len() {
@@ -43,6 +42,20 @@ fn in_items<R: Rows>(scope: &Scope<'_, R>, expressions: &[Expr]) -> Option<PartF
     None
 }
 
+// The first failure of items at a row.
+fn items_at<R: Rows>(
+    scope: &Scope<'_, R>,
+    expressions: &[Expr],
+    values: &[Value],
+) -> Option<PartFailure>
+    ensures { result ≡ placed_failure (within scope.now values.now)
+        (enumerate_from 1 expressions.now) }
+{
+    let ranges = scope.ranges_with(values);
+    let here = scope.over(&ranges);
+    in_items(&here, expressions)
+}
+
 fn items_failure<R: Rows>(
     scope: &Scope<'_, R>,
     outputs: &Outputs,
@@ -52,11 +65,7 @@ fn items_failure<R: Rows>(
 {
     match outputs {
         Outputs::Star => None,
-        Outputs::Values(expressions) => {
-            let ranges = scope.ranges_with(values);
-            let here = scope.over(&ranges);
-            in_items(&here, expressions.as_slice())
-        }
+        Outputs::Values(expressions) => items_at(scope, expressions.as_slice(), values),
     }
 }
 

@@ -1,13 +1,14 @@
 //! The first failure of values for the columns of a table ("Store assignment").
-ghost use Rattle.std.specs.Prelude.{◌≡◌, chars, if◌then◌else◌, length, map, nat_le, zip, Some, None};
+ghost use Rattle.std.specs.Prelude.{◌≡◌, chars, if◌then◌else◌, length, nat_le, zip, Some, None};
 ghost use Rattle.std.specs.List.{enumerate_from};
 ghost use Rattle.std.specs.Option.{option_copied};
 ghost use Rattle.iv_value.specs.References.{value_of};
-ghost use Rattle.iv_expr.specs.declared.tree.Expr.TheVariants.{Literal};
 ghost use Rattle.iv_expr.specs.Scopes.{within};
 ghost use Rattle.iv_machine.specs.Proposals.{column_at};
 ghost use Rattle.iv_account.specs.declared.failure.EvaluatedFor.TheVariants as part_of;
 ghost use Rattle.iv_account.specs.declared.failure.ValueFailure.TheVariants as failed;
+ghost use Rattle.iv_account.specs.Disagreements.{first_of};
+ghost use Rattle.iv_exec_context.specs.Sides.{copies_failure, copy_failure};
 ghost use Rattle.iv_account.specs.Failures.{by_column, column_failure, of_part, output_expressions, set_pairs, stored_failure, text_failure, values_failure};
 
 use crate::failures::expression::expression_failure;
@@ -113,8 +114,7 @@ fn of_column<R: Rows>(
 
 // What fails of a copy of a value for a column.
 fn of_copy(catalogue: &Catalogue, table: TableId, column: u64, value: &Value) -> Option<PartFailure>
-    ensures { (s : _) → result ≡ of_part (part_of.Column table column)
-        (stored_failure catalogue.now s table column (Literal value.now)) }
+    ensures { result ≡ copy_failure catalogue.now table (column, value.now) }
 {
     of_part(
         EvaluatedFor::Column(table, column),
@@ -193,8 +193,7 @@ pub fn expressions_failure<R: Rows>(
 
 // The first failure of copies of values for all columns, in their order.
 fn copies_in_order(catalogue: &Catalogue, table: TableId, values: &[Value]) -> Option<PartFailure>
-    ensures { (s : _) → result ≡ values_failure catalogue.now s table
-        (enumerate_from 0 (map Literal values.now)) }
+    ensures { result ≡ first_of (copy_failure catalogue.now table) (enumerate_from 0 values.now) }
 {
     let mut at = 0usize;
     while at < values.len() {
@@ -214,8 +213,8 @@ fn copies_in_list(
     columns: &[u32],
     values: &[Value],
 ) -> Option<PartFailure>
-    ensures { (s : _) → result ≡ values_failure catalogue.now s table
-        (zip columns.now (map Literal values.now)) }
+    ensures { result ≡ first_of (copy_failure catalogue.now table)
+        (zip columns.now values.now) }
 {
     match columns {
         [] => None,
@@ -236,8 +235,7 @@ pub fn copies_failure(
     listed: &InsertColumns,
     values: &[Value],
 ) -> Option<PartFailure>
-    ensures { (s : _) → result ≡ values_failure catalogue.now s table
-        (by_column listed.now (map Literal values.now)) }
+    ensures { result ≡ copies_failure catalogue.now table listed.now values.now }
 {
     match listed {
         InsertColumns::All => copies_in_order(catalogue, table, values),
@@ -248,6 +246,7 @@ pub fn copies_failure(
 }
 
 /// The first failure of what a query gives of a row for the columns of an INSERT. It allocates nothing.
+#[tactic(auto, using(crate::proofs::Copies::copies_fail))]
 pub fn outputs_failure<R: Rows>(
     catalogue: &Catalogue,
     scope: &Scope<'_, R>,
