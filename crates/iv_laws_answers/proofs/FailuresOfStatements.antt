@@ -243,38 +243,42 @@ module _ (s : Scope) (c : Cond) (cause : Cause) (told : tells_failure cause ≡ 
           let none : pairs ≡ [] = cc in
           let never : each make (filter_map element_where_true []) ≡ Err cause = ap (λ (l : List (X × Bool)). each make (filter_map element_where_true l)) (sym none) ∙ h in
           cc
-      then_made (r ∷ rows) all pairs is h = by (holds (within s (row_of (as_taken r))) c) refl is
+      then_made (r ∷ rows) all pairs is h = by (holds (within s (row_of (as_taken r))) c) refl is (then_made rows all.1)
         where
           made_here : (b : Bool) → holds (within s r.values) c ≡ Ok b → b ≡ true → is_some (made r) ≡ true → is_some (if_true_at s c made r) ≡ true
-          made_here b held yes some = ap (λ x. is_some (if x then made r else None)) (true_there r b held ∙ yes) ∙ some
+          made_here b held so some = ap (λ x. is_some (if x then made r else None)) (true_there r b held ∙ so) ∙ some
+
+          by_make : (ys : List (X × Bool)) → each asks (map as_taken rows) ≡ Ok ys → holds (within s r.values) c ≡ Ok true
+              → ((ys : List (X × Bool)) → each asks (map as_taken rows) ≡ Ok ys → each make (filter_map element_where_true ys) ≡ Err cause → is_some (first_of (if_true_at s c made) rows) ≡ true)
+              → (x : Result B Cause) → make (as_taken r) ≡ x
+              → and_then x (λ y. and_then (each make (filter_map element_where_true ys)) (λ zs. Ok (y ∷ zs))) ≡ Err cause
+              → is_some (first_of (if_true_at s c made) (r ∷ rows)) ≡ true
+          by_make ys rest held ih (Err e) is h =
+              let now : e ≡ cause = cc in
+              some_here (if_true_at s c made) r rows (made_here true held refl (fails r all.0 (is ∙ ap (λ y. Err y) now)))
+          by_make ys rest held ih (Ok y) is h =
+              some_further (if_true_at s c made) r rows
+              (ih ys rest (made_refused (each make (filter_map element_where_true ys)) (λ zs. y ∷ zs) cause h))
 
           at : (ys : List (X × Bool)) → each asks (map as_taken rows) ≡ Ok ys → (b : Bool) → holds (within s r.values) c ≡ Ok b
+              → ((ys : List (X × Bool)) → each asks (map as_taken rows) ≡ Ok ys → each make (filter_map element_where_true ys) ≡ Err cause → is_some (first_of (if_true_at s c made) rows) ≡ true)
               → each make (filter_map element_where_true ((as_taken r, b) ∷ ys)) ≡ Err cause → is_some (first_of (if_true_at s c made) (r ∷ rows)) ≡ true
-          at ys rest false held h = some_further (if_true_at s c made) r rows (then_made rows all.1 ys rest h)
-          at ys rest true held h = by_make (make (as_taken r)) refl h
-            where
-              by_make : (x : Result B Cause) → make (as_taken r) ≡ x
-                  → and_then x (λ y. and_then (each make (filter_map element_where_true ys)) (λ zs. Ok (y ∷ zs))) ≡ Err cause
-                  → is_some (first_of (if_true_at s c made) (r ∷ rows)) ≡ true
-              by_make (Err e) is h =
-                  let now : e ≡ cause = cc in
-                  some_here (if_true_at s c made) r rows (made_here true held refl (fails r all.0 (is ∙ ap (λ y. Err y) now)))
-              by_make (Ok y) is h =
-                  some_further (if_true_at s c made) r rows
-                  (then_made rows all.1 ys rest (made_refused (each make (filter_map element_where_true ys)) (λ zs. y ∷ zs) cause h))
+          at ys rest false held ih h = some_further (if_true_at s c made) r rows (ih ys rest h)
+          at ys rest true held ih h = by_make ys rest held ih (make (as_taken r)) refl h
 
-          by_rest : (b : Bool) → holds (within s r.values) c ≡ Ok b → (x : Result (List (X × Bool)) Cause) → each asks (map as_taken rows) ≡ x
+          by_rest : (b : Bool) → holds (within s r.values) c ≡ Ok b → ((ys : List (X × Bool)) → each asks (map as_taken rows) ≡ Ok ys → each make (filter_map element_where_true ys) ≡ Err cause → is_some (first_of (if_true_at s c made) rows) ≡ true) → (x : Result (List (X × Bool)) Cause) → each asks (map as_taken rows) ≡ x
               → and_then x (λ ys. Ok ((as_taken r, b) ∷ ys)) ≡ Ok pairs → is_some (first_of (if_true_at s c made) (r ∷ rows)) ≡ true
-          by_rest b held (Err e) rest is = cc
-          by_rest b held (Ok ys) rest is =
+          by_rest b held ih (Err e) rest is = cc
+          by_rest b held ih (Ok ys) rest is =
               let these : (as_taken r, b) ∷ ys ≡ pairs = cc in
-              at ys rest b held (ap (λ (l : List (X × Bool)). each make (filter_map element_where_true l)) these ∙ h)
+              at ys rest b held ih (ap (λ (l : List (X × Bool)). each make (filter_map element_where_true l)) these ∙ h)
 
           by : (x : Result Bool Cause) → holds (within s (row_of (as_taken r))) c ≡ x
               → and_then (and_then x (λ b. Ok (as_taken r, b))) (λ y. and_then (each asks (map as_taken rows)) (λ ys. Ok (y ∷ ys))) ≡ Ok pairs
+              → ((ys : List (X × Bool)) → each asks (map as_taken rows) ≡ Ok ys → each make (filter_map element_where_true ys) ≡ Err cause → is_some (first_of (if_true_at s c made) rows) ≡ true)
               → is_some (first_of (if_true_at s c made) (r ∷ rows)) ≡ true
-          by (Err e) now is = cc
-          by (Ok b) now is = by_rest b (asked_at r (Ok b) now) (each asks (map as_taken rows)) refl is
+          by (Err e) now is ih = cc
+          by (Ok b) now is ih = by_rest b (asked_at r (Ok b) now) ih (each asks (map as_taken rows)) refl is
 
       pub rows_fail : (rows : List StoredRow) → AllAre Is rows → (xs : List X) → map as_taken rows ≡ xs
           → and_then (where_true row_of s c xs) (each make) ≡ Err cause → is_some (rows_failure s c made rows) ≡ true
@@ -322,7 +326,8 @@ outputs_are s (outputs.Values es) row = refl
 
 -- a SET list, as the machine evaluates it
 settings_are : (s : Scope) (settings : List Setting)
-    → map (λ (x : Setting). (x.column, value s x.value)) settings ≡ map (λ (p : ℕ × Expr). (p.0, value s p.1)) (set_pairs settings)
+    → map {B = ℕ × Result Value ExprFault} (λ (x : Setting). (x.column, value s x.value)) settings
+    ≡ map {B = ℕ × Result Value ExprFault} (λ (p : ℕ × Expr). (p.0, value s p.1)) (set_pairs settings)
 settings_are s [] = refl
 settings_are s (x ∷ settings) = ap (λ (l : List (ℕ × Result Value ExprFault)). (x.column, value s x.value) ∷ l) (settings_are s settings)
 
