@@ -29,10 +29,8 @@ fn refused<K: ChangeableRows>(
     ensures told { UnlessMemory result (account.new ≡ and_told account.old (failure_told cause
         (query_failure (K.view store.now).base.rows plan.now))) }
 {
-    match tell_query(store, plan, &cause, account) {
-        Ok(()) => Err(Refusal::of(cause)),
-        Err(_) => Err(Refusal::of(Cause::OutOfMemory)),
-    }
+    tell_query(store, plan, &cause, account)?;
+    Err(Refusal::of(cause))
 }
 
 impl<K: Keeper + Drop> SessionState<K> {
