@@ -15,7 +15,9 @@ use Rattle.iv_exec_level.proofs.ToldLevels.{finished_told_is, nested_told_as, un
 use Rattle.iv_exec_level.proofs.ToldTurns.{rows_told, rows_told_refused, statements_told, statements_told_refused, triggers_told, triggers_told_refused}
 use Rattle.iv_exec_level.proofs.Turns.{rows_refused, rows_so_far, statements_refused, statements_so_far, triggers_refused, triggers_so_far}
 use Rattle.iv_exec_context.proofs.Answers.{anyway}
-use Rattle.iv_account.specs.Accounts.{fired_told, firing_told}
+use Rattle.iv_account.specs.Accounts.{failure_told, fired_told, firing_told}
+use Rattle.iv_account.specs.Failures.{when_failure}
+use Rattle.iv_expr.specs.declared.row.StoredRow.{StoredRow}
 use Rattle.iv_exec_level.proofs.ToldConditions.{body_told_after, nothing_after, when_failed}
 use Rattle.iv_exec_level.proofs.level.+level.Goals as goal
 
@@ -278,7 +280,10 @@ run_where_true-returns-in-Err-clause-told g t c =
     let tell = nested_told c.args.deeper c.args.context.now in
     let x : Firing = record { trigger = c.args.trigger.now; frame = c.args.frame.now } in
     anyway (is_memory_cause c.of.result.cause) (c.tell_when.new.account ≡ and_told c.args.account.now (firing_told run tell x at))
-    (c.in_ok-tell_when-in-Err.ensures.told ∙ ap (and_told c.args.account.now) (sym (c.in-Err.ensures.told (when_failed x at) (fired_told run tell x at))))
+    (c.in_ok-tell_when-in-Err.ensures.told
+    ∙ ap (λ (rows : List StoredRow). and_told c.args.account.now (failure_told c.in-Err.cause (when_failure rows c.args.trigger.now c.args.frame.now)))
+    (g.met.K.ChangeableRows.rows_are c.args.store.now)
+    ∙ ap (and_told c.args.account.now) (sym (c.in-Err.ensures.told (when_failed x at) (fired_told run tell x at))))
 
 pub run_where_true-returns-then-is_true-clause-told : goal.run_where_true-returns-then-is_true-clause-told
 run_where_true-returns-then-is_true-clause-told g t c =
@@ -288,7 +293,7 @@ run_where_true-returns-then-is_true-clause-told g t c =
     let x : Firing = record { trigger = c.args.trigger.now; frame = c.args.frame.now } in
     body_told_after run tell x at c.args.account.now c.ran_or_skipped.new.self c.in-Ok.when
     (c.in-Ok.ensures.told (when_failed x at) (fired_told run tell x at)) c.in_ok-ran_or_skipped.ensures.told
-    c.run_body.result c.run_body.new.account (c.if-is_true.ensures ∙ c.is_true.ensures) c.run_body.ensures.told
+    c.run_body.result c.run_body.new.account c.if-is_true.ensures c.run_body.ensures.told
 
 pub run_where_true-returns-else-is_true-clause-told : goal.run_where_true-returns-else-is_true-clause-told
 run_where_true-returns-else-is_true-clause-told g t c =
@@ -298,4 +303,4 @@ run_where_true-returns-else-is_true-clause-told g t c =
     let x : Firing = record { trigger = c.args.trigger.now; frame = c.args.frame.now } in
     nothing_after run tell x at c.args.account.now c.ran_or_skipped.new.self c.in-Ok.when
     (c.in-Ok.ensures.told (when_failed x at) (fired_told run tell x at)) c.in_ok-ran_or_skipped.ensures.told
-    (c.if-is_true.ensures ∙ c.is_true.ensures)
+    c.if-is_true.ensures
