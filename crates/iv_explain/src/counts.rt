@@ -2,11 +2,10 @@
 ghost use Rattle.std.specs.Prelude.{◌++◌, decimal};
 ghost use Rattle.iv_print.specs.Writing.{Writes};
 ghost use Rattle.iv_explain.specs.Reasons.{columns_text, counted_text, values_text};
-ghost use Rattle.iv_explain.specs.Spelled.{spelled};
+ghost use Rattle.iv_print.specs.Spelled.{spelled};
 
-use crate::spelled::{tell, tell_between, tell_both};
 use itoa::Buffer;
-use iv_print::{DeviceFault, Format, Sink};
+use iv_print::{DeviceFault, Format, Sink, tell, tell_between, tell_both};
 
 /// Writes a number.
 pub fn tell_number<W: Sink>(writer: &mut W, format: Format, number: u128) -> Result<(), DeviceFault>

@@ -9,10 +9,12 @@ ghost use Rattle.iv_print.specs.Writing.{Writes};
 ghost use Rattle.iv_print.specs.Lines.{value_text, further_text, values_text};
 ghost use Rattle.iv_print.specs.AccountLines.{spaces, indent, table_name, column_name, column_name_in, numbered_text, listed_text, side_text, verb, sides_text, change_text, change_line, change_lines, action_words, action_line, action_lines, asked_text, ran_lines, truth_name, skipped_line, nothing_text, began_line, reference_words_of, referenced_text, reference_text, equal_text, key_text, null_text, rule_text, constraint_rule_text, fault_rows_text, fault_line, ends_next, entry_text, depth_after, account_text};
 
+use crate::check::write_check;
 use crate::conflict::write_conflict;
 use crate::device::{DeviceFault, Sink};
 use crate::failure::write_failure;
 use crate::outcome::{write_borrowed, write_name, write_row_number, write_trigger, write_values};
+use crate::rule::write_described;
 use crate::write::{write_all, write_number};
 use iv_account::{Entry, RowAction, SkippedView, TriggerView};
 use iv_catalogue::{
@@ -499,7 +501,13 @@ fn write_rule<W: Sink>(
         }
         Rule::PrimaryKey(_) => write_key(sink, others),
         Rule::Unique(_, _) => write_key(sink, others),
-        Rule::Check(_) => write_all(sink, b" makes its condition false"),
+        Rule::Check(condition) => write_check(
+            sink,
+            catalogue,
+            constraint.table,
+            row.values.values(),
+            condition,
+        ),
         Rule::NotNull(column) => write_null(sink, catalogue, constraint.table, *column),
     }
 }
@@ -557,7 +565,7 @@ fn write_fault<W: Sink>(
         (fault_line catalogue.now outcome.now depth constraint rows.now) }
 {
     write_indent(sink, depth)?;
-    write_name(sink, catalogue.constraints(), constraint)?;
+    write_described(sink, catalogue, constraint)?;
     write_all(sink, b": ")?;
     write_fault_rows(sink, catalogue, outcome, constraint, rows)?;
     write_all(sink, b"\n")

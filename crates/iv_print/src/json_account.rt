@@ -11,6 +11,7 @@ ghost use Rattle.iv_print.specs.JsonAccounts.{acted_entry, acting_members, actio
 ghost use Rattle.iv_machine.specs.BeforeTriggers.{event_of_change};
 
 use crate::account::{depth_after, ends_next, truth_name};
+use crate::check::write_check_members;
 use crate::device::{DeviceFault, Sink};
 use crate::json::{
     write_borrowed, write_json_text, write_key, write_member, write_name, write_number_member,
@@ -18,6 +19,7 @@ use crate::json::{
 };
 use crate::json_conflict::write_conflict;
 use crate::json_failure::write_failure;
+use crate::json_rule::write_described;
 use crate::write::{write_all, write_number};
 use iv_account::{Entry, RowAction, SkippedView, TriggerView};
 use iv_catalogue::{
@@ -443,7 +445,13 @@ fn write_rule<W: Sink>(
         }
         Rule::PrimaryKey(_) => write_equal_key(sink, others),
         Rule::Unique(_, _) => write_equal_key(sink, others),
-        Rule::Check(_) => write_because(sink, b"false_condition"),
+        Rule::Check(condition) => write_check_members(
+            sink,
+            catalogue,
+            constraint.table,
+            row.values.values(),
+            condition,
+        ),
         Rule::NotNull(column) => write_null(sink, catalogue, constraint.table, *column),
     }
 }
@@ -642,8 +650,7 @@ fn write_faulted<W: Sink>(
         (violation_entry catalogue.now outcome.now constraint rows.now) }
 {
     write_entry_key(sink, b"violation")?;
-    write_member(sink, b"constraint")?;
-    write_name(sink, catalogue.constraints(), constraint)?;
+    write_described(sink, catalogue, constraint)?;
     write_violation(sink, catalogue, outcome, constraint, rows)?;
     write_all(sink, b"}")
 }

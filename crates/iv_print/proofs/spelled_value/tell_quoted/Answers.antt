@@ -1,8 +1,8 @@
 use Rattle.std.proofs.Common.{◌++◌, ℕ, List, codes, ap, sym}
 use Rattle.std.specs.List.{flat_map}
 use Rattle.iv_print.specs.Lines.{quote_doubled}
-use Rattle.iv_explain.proofs.Trees.{three}
-use Rattle.iv_explain.proofs.expressions.tell_quoted.Goals as goal
+use Rattle.iv_print.proofs.SpelledLemmas.{three}
+use Rattle.iv_print.proofs.spelled_value.tell_quoted.Goals as goal
 
 pub returns : goal.returns
 returns g c =

@@ -2,8 +2,8 @@ use Rattle.std.proofs.Common.{length}
 use Rattle.std.specs.List.{flat_map}
 use Rattle.iv_print.specs.Lines.{quote_doubled}
 use Rattle.iv_print.proofs.WriteLemmas.{Wrote}
-use Rattle.iv_explain.specs.Spelled.{spelled}
-use Rattle.iv_explain.proofs.expressions.tell_characters.Given as goal
+use Rattle.iv_print.specs.Spelled.{spelled}
+use Rattle.iv_print.proofs.spelled_value.tell_characters.Given as goal
 
 abbrev pub invariant-loop-byte : goal.invariant-loop-byte
 invariant-loop-byte g l =

@@ -3,9 +3,9 @@ use Rattle.std.proofs.lemmas.Grind.{common_steps}
 use Rattle.std.specs.List.{flat_map}
 use Rattle.iv_print.specs.Lines.{quote_doubled}
 use Rattle.iv_print.proofs.WriteLemmas.{wrote_all, wrote_step}
-use Rattle.iv_explain.specs.Spelled.{spelled}
-use Rattle.iv_explain.proofs.SpelledLemmas.{spelled_append, spelled_none}
-use Rattle.iv_explain.proofs.expressions.tell_characters.Goals as goal
+use Rattle.iv_print.specs.Spelled.{spelled}
+use Rattle.iv_print.proofs.SpelledLemmas.{spelled_append, spelled_none}
+use Rattle.iv_print.proofs.spelled_value.tell_characters.Goals as goal
 
 pub loop-byte-preserved : goal.loop-byte-preserved
 loop-byte-preserved g c =

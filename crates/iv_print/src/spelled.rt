@@ -1,9 +1,12 @@
 //! Texts as they are, or as they stand between the quotes of JSON.
 ghost use Rattle.std.specs.Prelude.{◌++◌};
 ghost use Rattle.iv_print.specs.Writing.{Writes};
-ghost use Rattle.iv_explain.specs.Spelled.{spelled};
+ghost use Rattle.iv_print.specs.Spelled.{spelled};
 
-use iv_print::{DeviceFault, Format, Sink, write_all, write_json_bytes};
+use crate::device::{DeviceFault, Sink};
+use crate::format::Format;
+use crate::json::write_json_bytes;
+use crate::write::write_all;
 
 /// Writes the bytes in this format.
 #[tactic(auto, unfolding(crate::specs::Spelled::spelled))]
