@@ -11,7 +11,7 @@ use Rattle.iv_print.specs.Lines.{name_of}
 use Rattle.iv_print.specs.Rules.{described_text}
 use Rattle.iv_print.specs.AccountLines.{fault_rows_text, numbered_text}
 use Rattle.iv_print.specs.Json.{json_text, key, member}
-use Rattle.iv_print.specs.JsonAccounts.{json_account, place_members}
+use Rattle.iv_print.specs.JsonAccounts.{asked_member, json_account, place_members}
 
 -- ---- in words
 
@@ -49,12 +49,14 @@ abbrev pub row_of_members : Schema → Option Constraint → ℕ → List ℕ
 row_of_members s (Some k) row = place_members s k.table row
 row_of_members s None row = []
 
--- a constraint, and a row of its table
+-- a constraint, what it asks, and a row of its table
 abbrev pub went_object : Schema → Fault → List ℕ
 went_object s f =
     codes "{"
     ++ (key (codes "constraint")
-    ++ (json_text (name_of (slice_get s.constraints f.constraint)) ++ (row_of_members s (slice_get s.constraints f.constraint) f.row ++ codes "}")))
+    ++ (json_text (name_of (slice_get s.constraints f.constraint))
+    ++ (asked_member s (slice_get s.constraints f.constraint)
+    ++ (row_of_members s (slice_get s.constraints f.constraint) f.row ++ codes "}"))))
 
 abbrev pub further_went : Schema → Fault → List ℕ
 further_went s f = codes "," ++ went_object s f

@@ -28,7 +28,7 @@ fn write_words<W: Sink>(
     write_all(sink, b"\"")
 }
 
-fn write_asked<W: Sink>(
+fn write_asked_of<W: Sink>(
     sink: &mut W,
     catalogue: &Catalogue,
     constraint: Option<&Constraint>,
@@ -45,6 +45,18 @@ fn write_asked<W: Sink>(
     }
 }
 
+/// What a constraint asks.
+pub(crate) fn write_asked<W: Sink>(
+    sink: &mut W,
+    catalogue: &Catalogue,
+    id: ConstraintId,
+) -> Result<(), DeviceFault>
+    ensures { Writes (W.state sink.old) (W.state sink.new) result
+        (asked_member catalogue.now (slice_get catalogue.now.constraints id)) }
+{
+    write_asked_of(sink, catalogue, catalogue.constraint(id))
+}
+
 /// The name of a constraint, and what it asks.
 pub(crate) fn write_described<W: Sink>(
     sink: &mut W,
@@ -56,5 +68,5 @@ pub(crate) fn write_described<W: Sink>(
 {
     write_member(sink, b"constraint")?;
     write_name(sink, catalogue.constraints(), id)?;
-    write_asked(sink, catalogue, catalogue.constraint(id))
+    write_asked(sink, catalogue, id)
 }

@@ -14,6 +14,7 @@ use crate::account::{write_fault_rows, write_numbered};
 use crate::device::{DeviceFault, Sink};
 use crate::json::{write_key, write_member, write_name as write_json_name};
 use crate::json_account::{write_json_account, write_place};
+use crate::json_rule::write_asked;
 use crate::rule::write_described;
 use crate::write::write_all;
 use iv_account::Entry;
@@ -221,6 +222,7 @@ fn write_went_object<W: Sink>(
     write_all(sink, b"{")?;
     write_key(sink, b"constraint")?;
     write_json_name(sink, catalogue.constraints(), fault.constraint)?;
+    write_asked(sink, catalogue, fault.constraint)?;
     write_row_members(
         sink,
         catalogue,

@@ -202,7 +202,7 @@ def reason_of(error: Error) -> str:
     if refusal is None:
         return f"{name}: {f'row {error.row}: ' if error.row is not None else ''}{sentence}"
     inside = f", in trigger {refusal.inside}" if refusal.inside is not None else ""
-    of = refusal.constraint or refusal.trigger
+    of = error.violations[0].described if error.violations else refusal.constraint or refusal.trigger
     return f"{name}{f' of {of}' if of is not None else ''}: {matter_of(error, refusal, sentence)}{inside}"
 
 
