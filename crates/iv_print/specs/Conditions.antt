@@ -60,10 +60,14 @@ abbrev pub is_product : Expr → Bool
 is_product (times a b) = true
 is_product _ = false
 
--- of the operands' texts; the right one in parentheses, if these are needed
-abbrev pub difference_text : Bool → Bool → List ℕ → List ℕ → List ℕ
-difference_text true enclosed a b = codes "-" ++ b
-difference_text false enclosed a b = a ++ (codes " - " ++ enclosed_if enclosed b)
+-- as the right operand of a product
+abbrev pub is_operation : Shown → Expr → Bool
+is_operation shown e = is_sum shown e || is_product e
+
+-- what stands before the right operand of a difference: a sign, or the left operand of this text and a minus
+abbrev pub minus_text : Bool → List ℕ → List ℕ
+minus_text true a = codes "-"
+minus_text false a = a ++ codes " - "
 
 -- A CHECK has no row variable.
 abbrev pub expression_text : Shown → List Column → List Value → Expr → List ℕ
@@ -73,10 +77,10 @@ expression_text shown columns row (expr.Variable side place) = codes "NULL"
 expression_text shown columns row (plus a b) =
     expression_text shown columns row a ++ (codes " + " ++ enclosed_if (is_sum shown b) (expression_text shown columns row b))
 expression_text shown columns row (minus a b) =
-    difference_text (is_signed shown a b) (is_sum shown b) (expression_text shown columns row a) (expression_text shown columns row b)
+    minus_text (is_signed shown a b) (expression_text shown columns row a) ++ enclosed_if (is_sum shown b) (expression_text shown columns row b)
 expression_text shown columns row (times a b) =
     enclosed_if (is_sum shown a) (expression_text shown columns row a)
-    ++ (codes " * " ++ enclosed_if (is_sum shown b || is_product b) (expression_text shown columns row b))
+    ++ (codes " * " ++ enclosed_if (is_operation shown b) (expression_text shown columns row b))
 
 -- ---- conditions
 

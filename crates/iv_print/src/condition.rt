@@ -2,7 +2,7 @@
 ghost use Rattle.std.specs.Prelude.{◌≡◌, ◌++◌, codes, option_map};
 ghost use Rattle.std.specs.Option.{option_copied};
 ghost use Rattle.iv_expr.specs.declared.tree.Cond.TheVariants as cond;
-ghost use Rattle.iv_print.specs.Conditions.{column_text, comparison_text, condition_text, difference_text, enclosed_if, expression_text, is_below_and, is_below_not, is_both, is_either, is_negated, is_null_test, is_product, is_signed, is_sum, is_unsigned, is_zero, not_text, null_operand, shows_names, takes_sign};
+ghost use Rattle.iv_print.specs.Conditions.{column_text, comparison_text, condition_text, enclosed_if, expression_text, is_below_and, is_below_not, is_both, is_either, is_negated, is_null_test, is_operation, is_product, is_signed, is_sum, is_unsigned, is_zero, minus_text, not_text, null_operand, shows_names, takes_sign};
 ghost use Rattle.iv_print.specs.Spelled.{spelled};
 ghost use Rattle.iv_print.specs.Writing.{Writes};
 
@@ -70,7 +70,6 @@ fn is_signed(shown: Shown, a: &Expr, b: &Expr) -> bool
     is_zero(a) && takes_sign(shown, b)
 }
 
-#[tactic(auto, using(crate::proofs::ConditionLemmas::is_sum_plus, crate::proofs::ConditionLemmas::is_sum_minus, crate::proofs::ConditionLemmas::is_sum_times))]
 fn is_sum(shown: Shown, expr: &Expr) -> bool
     ensures { result ≡ is_sum shown expr.now }
 {
@@ -81,35 +80,36 @@ fn is_sum(shown: Shown, expr: &Expr) -> bool
     }
 }
 
-#[tactic(auto, using(crate::proofs::ConditionLemmas::is_product_plus, crate::proofs::ConditionLemmas::is_product_minus, crate::proofs::ConditionLemmas::is_product_times))]
 fn is_product(expr: &Expr) -> bool
     ensures { result ≡ is_product expr.now }
 {
     matches!(expr, Expr::Times(_, _))
 }
 
-#[tactic(auto, using(crate::proofs::ConditionLemmas::is_both_not, crate::proofs::ConditionLemmas::is_both_and, crate::proofs::ConditionLemmas::is_both_or, crate::proofs::ConditionLemmas::is_both_exists))]
+fn is_operation(shown: Shown, expr: &Expr) -> bool
+    ensures { result ≡ is_operation shown expr.now }
+{
+    is_sum(shown, expr) || is_product(expr)
+}
+
 fn is_both(cond: &Cond) -> bool
     ensures { result ≡ is_both cond.now }
 {
     matches!(cond, Cond::And(_, _))
 }
 
-#[tactic(auto, using(crate::proofs::ConditionLemmas::is_either_not, crate::proofs::ConditionLemmas::is_either_and, crate::proofs::ConditionLemmas::is_either_or, crate::proofs::ConditionLemmas::is_either_exists))]
 fn is_either(cond: &Cond) -> bool
     ensures { result ≡ is_either cond.now }
 {
     matches!(cond, Cond::Or(_, _))
 }
 
-#[tactic(auto, using(crate::proofs::ConditionLemmas::is_null_test_not, crate::proofs::ConditionLemmas::is_null_test_and, crate::proofs::ConditionLemmas::is_null_test_or, crate::proofs::ConditionLemmas::is_null_test_exists))]
 fn is_null_test(cond: &Cond) -> bool
     ensures { result ≡ is_null_test cond.now }
 {
     matches!(cond, Cond::IsNull(_))
 }
 
-#[tactic(auto, using(crate::proofs::ConditionLemmas::is_negated_not, crate::proofs::ConditionLemmas::is_negated_and, crate::proofs::ConditionLemmas::is_negated_or, crate::proofs::ConditionLemmas::is_negated_exists))]
 fn is_negated(cond: &Cond) -> bool
     ensures { result ≡ is_negated cond.now }
 {
@@ -188,29 +188,27 @@ fn tell_operand<W: Sink>(
     }
 }
 
-// A difference: with a sign before the right operand, or between both.
+// What stands before the right operand of a difference: a sign, or the left operand and a minus.
 #[cycle(tell_expression)]
 #[tactic(auto, using(crate::proofs::SpelledLemmas::spelled_then))]
-fn tell_difference<W: Sink>(
+fn tell_minus<W: Sink>(
     writer: &mut W,
     format: Format,
     shown: Shown,
     columns: &[Column],
     row: &[Value],
+    signed: bool,
     a: &Expr,
-    b: &Expr,
 ) -> Result<(), DeviceFault>
     ensures { Writes (W.state writer.old) (W.state writer.new) result
-        (spelled format (difference_text (is_signed shown a.now b.now) (is_sum shown b.now)
-        (expression_text shown columns.now row.now a.now) (expression_text shown columns.now row.now b.now))) }
+        (spelled format (minus_text signed (expression_text shown columns.now row.now a.now))) }
 {
-    if is_signed(shown, a, b) {
-        tell(writer, format, b"-")?;
-        return tell_expression(writer, format, shown, columns, row, b);
+    if signed {
+        tell(writer, format, b"-")
+    } else {
+        tell_expression(writer, format, shown, columns, row, a)?;
+        tell(writer, format, b" - ")
     }
-    tell_expression(writer, format, shown, columns, row, a)?;
-    tell(writer, format, b" - ")?;
-    tell_operand(writer, format, shown, columns, row, is_sum(shown, b), b)
 }
 
 // An expression.
@@ -240,13 +238,18 @@ fn tell_expression<W: Sink>(
             tell_operand(writer, format, shown, columns, row, enclosed, b)
         }
         Expr::Minus(a, b) => {
-            tell_difference(writer, format, shown, columns, row, a.get(), b.get())
+            let a = a.get();
+            let b = b.get();
+            let signed = is_signed(shown, a, b);
+            let enclosed = is_sum(shown, b);
+            tell_minus(writer, format, shown, columns, row, signed, a)?;
+            tell_operand(writer, format, shown, columns, row, enclosed, b)
         }
         Expr::Times(a, b) => {
             let a = a.get();
             let b = b.get();
             let left = is_sum(shown, a);
-            let right = is_sum(shown, b) || is_product(b);
+            let right = is_operation(shown, b);
             tell_operand(writer, format, shown, columns, row, left, a)?;
             tell(writer, format, b" * ")?;
             tell_operand(writer, format, shown, columns, row, right, b)

@@ -1,0 +1,5 @@
+use Rattle.iv_print.proofs.ConditionLemmas.{is_both_and}
+use Rattle.iv_print.proofs.condition.is_both.Goals as goal
+
+pub returns-in-And : goal.returns-in-And
+returns-in-And c = is_both_and c.args.cond.now _ _ c.in-And.is
