@@ -151,6 +151,8 @@ def entry_lines(entry):
         return [asked_text(entry), *('  saw ' + change_text(change) for change in entry['saw'])]
     if entry['entry'] == 'skipped':
         return [asked_text(entry) + ' skipped: WHEN is ' + entry['when']]
+    if entry['entry'] == 'limit':
+        return [entry['text']]
     if entry['entry'] == 'statement':
         line = 'statement %d' % entry['number'] + (' changes nothing' if entry.get('changes_nothing') else '')
         return [line, *('  ' + line for line in account_lines(entry['account']))]

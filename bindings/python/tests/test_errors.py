@@ -41,7 +41,7 @@ CAUSES = [
      "UPDATE p SET k = 6, l = 7", sqlkeep.IntegrityError, 14, "ActionConflict", "ActionConflict of G: C row 2 (5) refers to P (5), and F sets X to NULL, where G sets it to 7"),
     ("CREATE TABLE t (a INT); CREATE TRIGGER guard BEFORE DELETE ON t SIGNAL 'it''s kept';", "DELETE FROM t", sqlkeep.IntegrityError, 15, "Signal", "Signal of GUARD: it's kept"),
     ("CREATE TABLE t (a INT); CREATE TRIGGER again AFTER INSERT ON t INSERT INTO t VALUES (1);", "INSERT INTO t VALUES (0)", sqlkeep.OperationalError, 16, "DepthLimit",
-     "DepthLimit of AGAIN: the statements of triggers are nested too deep"),
+     "DepthLimit of AGAIN: depth 17, and 16 is the most: AGAIN statement 1, AGAIN statement 1, AGAIN statement 1, .., AGAIN statement 1"),
     ("CREATE TABLE t (a INT CONSTRAINT positive CHECK (a > 0) INITIALLY DEFERRED); INSERT INTO t VALUES (0);", "COMMIT", sqlkeep.IntegrityError, 19, "CommitRefused",
      "CommitRefused of POSITIVE: T row 1 (0) makes A > 0 false (0 > 0); the transaction is rolled back"),
     ("CREATE TABLE t (a INT); INSERT INTO t VALUES (0); COMMIT;", "ALTER TABLE t ADD CHECK (a > 0)", sqlkeep.IntegrityError, 20, "AddRefused",

@@ -267,6 +267,9 @@ REASONS = [
     r"statement \d+ (?:is|sets) [^\n]*",
     r"(?:there would be \d+|it would be trigger \d+) [^\n]*",
     r"savepoint \w+ isn't there",
+    r"depth \d+, and \d+ is the most[^\n]*",
+    r"counted so far \d+, and the next row changes or statement are too many[^\n]*",
+    r"a transaction has at most \d+ row changes[^\n]*",
     r"no text is this statement",
 ]
 REASON = re.compile(rf"({'|'.join(REASONS)})\n")

@@ -90,7 +90,7 @@ class Error(Exception):
 
     @property
     def reason(self) -> str | None:
-        """Why the statement was refused, for causes 3, 7, 8, 9 and 21."""
+        """Why the statement was refused, for causes 3, 7, 8, 9, 16, 17, 18 and 21."""
         told = self.account.reason if self.account is not None else None
         return told.text if told is not None else None
 
@@ -216,6 +216,6 @@ def matter_of(error: Error, refusal: Refusal, sentence: str) -> str:
         return error.violations[0].reason + others + ("; the transaction is rolled back" if refusal.cause == 19 else "")
     account = error.account
     told = (account.name or account.reason) if account is not None else None
-    if told is not None:
+    if told is not None and refusal.cause not in (17, 18):
         return str(told)
     return f"row {refusal.row}: {sentence}" if refusal.row is not None else sentence

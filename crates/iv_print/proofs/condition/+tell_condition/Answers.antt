@@ -22,13 +22,13 @@ pub tell_condition-returns-in_ok-tell-in-And : goal.tell_condition-returns-in_ok
 tell_condition-returns-in_ok-tell-in-And g t c =
     and_told c.args.format c.args.shown c.args.columns.now c.args.row.now c.is_either-left.result c.is_below_and-right.result c.args.cond.now c.in-And.a c.in-And.b c.get-a.result.now c.get-b.result.now
     (g.W.Sink.state c.args.writer.now) (g.W.Sink.state c.tell_part.new.writer) (g.W.Sink.state c.tell-in-And.new.writer) (g.W.Sink.state c.tell_part-in-And.new.writer) c.tell_part-in-And.result
-    c.in-And.is c.get-a.ensures c.get-b.ensures c.is_either-left.ensures c.is_below_and-right.ensures c.in_ok-tell_part.ensures c.in_ok-tell-in-And.ensures c.tell_part-in-And.ensures
+    c.in-And.is c.get-a.ensures c.get-b.ensures c.is_either-left.ensures c.is_below_and-right.ensures c.in_ok-tell_part-in-And.ensures c.in_ok-tell-in-And.ensures c.tell_part-in-And.ensures
 
 pub tell_condition-returns-in_ok-tell-in-Or : goal.tell_condition-returns-in_ok-tell-in-Or
 tell_condition-returns-in_ok-tell-in-Or g t c =
     or_told c.args.format c.args.shown c.args.columns.now c.args.row.now c.is_either-right.result c.args.cond.now c.in-Or.a c.in-Or.b c.get-a-in-Or.result.now c.get-b-in-Or.result.now
     (g.W.Sink.state c.args.writer.now) (g.W.Sink.state c.tell_condition.new.writer) (g.W.Sink.state c.tell-in-Or.new.writer) (g.W.Sink.state c.tell_part-in-Or.new.writer) c.tell_part-in-Or.result
-    c.in-Or.is c.get-a-in-Or.ensures c.get-b-in-Or.ensures c.is_either-right.ensures c.in_ok-tell_condition.ensures c.in_ok-tell-in-Or.ensures c.tell_part-in-Or.ensures
+    c.in-Or.is c.get-a-in-Or.ensures c.get-b-in-Or.ensures c.is_either-right.ensures c.in_ok-tell_condition-in-Or.ensures c.in_ok-tell-in-Or.ensures c.tell_part-in-Or.ensures
 
 pub tell_condition-returns-in-Exists : goal.tell_condition-returns-in-Exists
 tell_condition-returns-in-Exists g t c =
@@ -41,7 +41,7 @@ tell_not-returns-in_ok-tell_expression-in-Some g t c =
     not_null_told c.args.format c.args.shown c.args.columns.now c.args.row.now (null_operand c.args.part.now) c.in-Some.operand.now (is_below_not c.args.part.now)
     (condition_text c.args.shown c.args.columns.now c.args.row.now c.args.part.now)
     (g.W.Sink.state c.args.writer.now) (g.W.Sink.state c.tell_expression.new.writer) (g.W.Sink.state c.tell.new.writer) c.tell.result
-    (search rules) c.in_ok-tell_expression.ensures c.tell.ensures
+    (search rules) c.in_ok-tell_expression-in-Some.ensures c.tell.ensures
 
 pub tell_not-returns-in_ok-tell-in-None : goal.tell_not-returns-in_ok-tell-in-None
 tell_not-returns-in_ok-tell-in-None g t c =

@@ -8,11 +8,12 @@ tell_expression-returns-in_ok-tell-in-Plus g t c =
     (g.W.Sink.state c.args.writer.now) (g.W.Sink.state c.tell_expression.new.writer) (g.W.Sink.state c.tell-in-Plus.new.writer) (g.W.Sink.state c.tell_operand.new.writer) c.tell_operand.result
     c.in-Plus.is c.get-a.ensures c.get-b.ensures c.is_sum-enclosed.ensures c.in_ok-tell_expression-in-Plus.ensures c.in_ok-tell-in-Plus.ensures c.tell_operand.ensures
 
-pub tell_expression-returns-in_ok-tell_minus : goal.tell_expression-returns-in_ok-tell_minus
-tell_expression-returns-in_ok-tell_minus g t c =
+pub tell_expression-returns-in_ok-tell_minus-in-Minus :
+    goal.tell_expression-returns-in_ok-tell_minus-in-Minus
+tell_expression-returns-in_ok-tell_minus-in-Minus g t c =
     minus_told c.args.format c.args.shown c.args.columns.now c.args.row.now c.is_signed-signed.result c.is_sum-enclosed-in-Minus.result c.args.expr.now c.in-Minus.a c.in-Minus.b c.get-a-in-Minus.result.now c.get-b-in-Minus.result.now
     (g.W.Sink.state c.args.writer.now) (g.W.Sink.state c.tell_minus.new.writer) (g.W.Sink.state c.tell_operand-in-Minus.new.writer) c.tell_operand-in-Minus.result
-    c.in-Minus.is c.get-a-in-Minus.ensures c.get-b-in-Minus.ensures c.is_signed-signed.ensures c.is_sum-enclosed-in-Minus.ensures c.in_ok-tell_minus.ensures c.tell_operand-in-Minus.ensures
+    c.in-Minus.is c.get-a-in-Minus.ensures c.get-b-in-Minus.ensures c.is_signed-signed.ensures c.is_sum-enclosed-in-Minus.ensures c.in_ok-tell_minus-in-Minus.ensures c.tell_operand-in-Minus.ensures
 
 pub tell_expression-returns-in_ok-tell-in-Times : goal.tell_expression-returns-in_ok-tell-in-Times
 tell_expression-returns-in_ok-tell-in-Times g t c =
