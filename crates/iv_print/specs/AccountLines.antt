@@ -44,6 +44,8 @@ use Rattle.iv_print.specs.Conditions.{condition_text}
 use Rattle.iv_print.specs.declared.condition.Shown.TheVariants.{Names, Values}
 use Rattle.iv_print.specs.Rules.{columns_of, described_text}
 pub use Rattle.iv_print.specs.Lines.{table_name, column_name, column_name_in}
+pub use Rattle.iv_print.specs.Ways.{depth_after}
+use Rattle.iv_print.specs.Ways.{limit_line}
 use Rattle.iv_print.specs.Lines.{value_text, values_text, name_of, trigger_text, row_number_text}
 
 -- two spaces for each
@@ -305,12 +307,6 @@ entry_text s outcome depth (Faulted fault rows) further = fault_line s outcome d
 entry_text s outcome depth (Disagreed fault rows how) further = conflict_line s depth fault.constraint rows how
 entry_text s outcome depth (Failed f) further = failure_line s depth f
 
--- The data statement that begins is one deeper, up to its end.
-abbrev pub depth_after : ℕ → Entry → ℕ
-depth_after depth (Began place) = suc depth
-depth_after depth Ended = depth - 1
-depth_after depth _ = depth
-
 -- the lines of entries, of which the first is at this depth
 abbrev pub entries_text : Schema → Result Answer Refusal → ℕ → List Entry → List ℕ
 entries_text s outcome depth [] = []
@@ -319,4 +315,4 @@ entries_text s outcome depth (entry ∷ entries) =
 
 -- The lines of the account of a statement with this outcome, with names as the catalogue has them after it.
 abbrev pub account_text : Schema → Result Answer Refusal → List Entry → List ℕ
-account_text s outcome entries = entries_text s outcome 0 entries
+account_text s outcome entries = entries_text s outcome 0 entries ++ limit_line s entries outcome

@@ -42,6 +42,7 @@ use Rattle.iv_print.specs.Conditions.{condition_text}
 use Rattle.iv_print.specs.declared.condition.Shown.TheVariants.{Names, Values}
 use Rattle.iv_print.specs.Rules.{columns_of, constraint_words}
 use Rattle.iv_print.specs.AccountLines.{column_name_in, depth_after, ends_next, table_name, truth_name}
+use Rattle.iv_print.specs.Ways.{is_limit, limit_text}
 use Rattle.iv_print.specs.Json.{json_row, json_text, json_value, json_values, key, member}
 
 -- ---- rows and changes
@@ -358,6 +359,20 @@ json_entries s outcome depth first (entry ∷ entries) =
     separator first entry
     ++ (json_entry s outcome entry entries ++ json_entries s outcome (depth_after depth entry) (begins entry) entries)
 
+-- a further entry, if there are some
+abbrev pub limit_separator : List Entry → List ℕ
+limit_separator [] = []
+limit_separator (entry ∷ entries) = codes ","
+
+-- which limit, and the way that led there
+abbrev pub limit_object : Schema → List Entry → Cause → List ℕ
+limit_object s entries c = entry_key (codes "limit") ++ (member (codes "text") ++ (json_text (limit_text s entries c) ++ codes "}"))
+
+-- the last entry of a statement that is refused for a limit
+abbrev pub limit_entry : Schema → List Entry → Result Answer Refusal → List ℕ
+limit_entry s entries (Ok a) = []
+limit_entry s entries (Err r) = if is_limit r.cause then limit_separator entries ++ limit_object s entries r.cause else []
+
 -- The account of a statement with this outcome, with names as the catalogue has them after it.
 abbrev pub json_account : Schema → Result Answer Refusal → List Entry → List ℕ
-json_account s outcome entries = codes "[" ++ (json_entries s outcome 0 true entries ++ codes "]")
+json_account s outcome entries = codes "[" ++ (json_entries s outcome 0 true entries ++ (limit_entry s entries outcome ++ codes "]"))

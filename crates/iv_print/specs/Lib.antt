@@ -7,6 +7,7 @@ pub mod Spelled
 pub mod Lines
 pub mod Conditions
 pub mod Rules
+pub mod Ways
 pub mod AccountLines
 pub mod WorkedConditions
 pub mod WorkedAccounts

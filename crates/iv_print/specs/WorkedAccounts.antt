@@ -172,6 +172,22 @@ pub record WorkedAccounts : Type 0 where
       ∷ Began 3 ∷ Ended ∷ ran_on 1 None None [] ∷ [])
       ≡ codes "  trigger COUNTED\n  statement 1\n    insert P row 4 (4)\n    trigger COUNTED\n      saw insert P row 4 (4)\n"
       ++ codes "    statement 2\n      C_PARENT CASCADE on C row 2\n  statement 3 changes nothing\n  trigger COUNTED\n"
+  pub depth_is_the_limit : account_text schema (refused (cause.DepthLimit 2))
+      (ran_on 1 None None [] ∷ Began 1 ∷ Ended ∷ ran_on 2 (Some (int 1 ∷ [])) None [] ∷ Began 2 ∷ Changed (inserted 0 4 (int 4 ∷ []) ∷ []) ∷ ran_on 1 None None []
+      ∷ Began 3 ∷ [])
+      ≡ codes "  trigger COUNTED\n  statement 1 changes nothing\n  trigger EACH OLD (1)\n  statement 2\n    insert P row 4 (4)\n    trigger COUNTED\n    statement 3\n"
+      ++ codes "  depth 3, and 2 is the most: EACH statement 2, COUNTED statement 3\n"
+  pub changes_are_the_limit : account_text schema (refused cause.TooManyChanges)
+      (Changed (inserted 0 1 (int 1 ∷ []) ∷ inserted 0 2 (int 2 ∷ []) ∷ []) ∷ [])
+      ≡ codes "  insert P row 1 (1)\n  insert P row 2 (2)\n  counted so far 3, and the next row changes or statement are too many\n"
+  pub transaction_is_the_limit : account_text schema (refused cause.TransactionTooLarge) [] ≡ codes "  a transaction has at most 1048576 row changes\n"
+  -- the first three and the last of five
+  pub long_way : account_text schema (refused (cause.DepthLimit 1))
+      (ran_on 1 None None [] ∷ Began 1 ∷ ran_on 1 None None [] ∷ Began 2 ∷ ran_on 1 None None [] ∷ Began 3 ∷ ran_on 1 None None [] ∷ Began 4
+      ∷ ran_on 1 None None [] ∷ Began 5 ∷ [])
+      ≡ codes "  trigger COUNTED\n  statement 1\n    trigger COUNTED\n    statement 2\n      trigger COUNTED\n      statement 3\n"
+      ++ codes "        trigger COUNTED\n        statement 4\n          trigger COUNTED\n          statement 5\n"
+      ++ codes "  depth 6, and 5 is the most: COUNTED statement 1, COUNTED statement 2, COUNTED statement 3, .., COUNTED statement 5\n"
   pub fault_in_a_body : account_text schema (refused (cause.Violation (fault 0)))
       (Began 1 ∷ Faulted (fault 0) (stored 0 2 (int 1 ∷ []) ∷ stored 0 1 (int 1 ∷ []) ∷ []) ∷ [])
       ≡ codes "  statement 1\n    P_KEY: P row 2 (1) has the key of row 1 (1)\n"

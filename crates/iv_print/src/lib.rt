@@ -15,11 +15,13 @@ mod json_account;
 mod json_conflict;
 mod json_failure;
 mod json_rule;
+mod json_way;
 mod outcome;
 mod pending;
 mod rule;
 mod spelled;
 mod spelled_value;
+mod way;
 mod write;
 
 pub use account::write_account;

@@ -1,8 +1,8 @@
 use Rattle.std.proofs.Common.{◌≡◌, ◌∷◌, length, rules, subst, sym, ◌+◌, ◌≤◌}
-use Rattle.iv_print.specs.AccountLines.{account_text, entry_text, entries_text}
+use Rattle.iv_print.specs.AccountLines.{entry_text, entries_text}
 use Rattle.iv_print.proofs.WriteLemmas.{wrote_step}
 use Rattle.iv_print.proofs.AccountLemmas.{depth_bounded, entries_step}
-use Rattle.iv_print.proofs.account.write_account.Goals as goal
+use Rattle.iv_print.proofs.account.write_entries.Goals as goal
 
 pub loop-entry-preserved : goal.loop-entry-preserved
 loop-entry-preserved g c =
@@ -13,7 +13,7 @@ loop-entry-preserved g c =
     let others = c.in-Some.others.now in
     let e : c.loop-entry.rest.now ≡ entry ∷ others = search rules in
     record {
-      wrote = wrote_step (account_text s outcome c.args.entries.now) (entry_text s outcome depth entry others)
+      wrote = wrote_step (entries_text s outcome 0 c.args.entries.now) (entry_text s outcome depth entry others)
           (entries_text s outcome c.depth_after-depth.result others) (entries_text s outcome depth c.loop-entry.rest.now)
           (g.W.Sink.state c.args.sink.now) (g.W.Sink.state c.loop-entry.sink) (g.W.Sink.state c.write_entry.new.sink)
           c.loop-entry.invariant.wrote
