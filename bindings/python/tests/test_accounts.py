@@ -134,6 +134,11 @@ class ByHand(unittest.TestCase):
             "constraint K refers to T (A, B), which is no key that is NOT DEFERRABLE", "REFERENCING names the old row twice", "REFERENCING name Z is for old rows, and INSERT has none",
             "statement 2 is SET, and the trigger is AFTER", "statement 2 sets Z.B, which is of the old row", "there would be 65 tables, and 64 is the most",
             "trigger R would have 33 statements, and 32 is the most", "column B is a VARCHAR(0), and 1 is the least", "savepoint S isn't there",
+            "A of T: 9223372036854775807 + 1 is out of range", "PRICE of BOOK row 3 ('it''s: 1', 9): 9223372036854775807 * -2 is out of range",
+            "WHERE of BOOK row 1 ('a\n  statement 1\n'): 0 - -9223372036854775808 is out of range", "WHEN of trigger R OLD (1) NEW (2): 9223372036854775807 + 2 is out of range",
+            "item 2 of BOOK row 1 (9): 9223372036854775807 + 9 is out of range", "TITLE of BOOK from U row 3 ('it''s') is VARCHAR(5), and the text has 19 characters",
+            "depth 2, and 1 is the most: R statement 1", "counted so far 4, and the next row changes or statement are too many: R statement 1, S statement 2",
+            "counted so far 1, and the next row changes or statement are too many", "a transaction has at most 1048576 row changes",
         ):
             with self.subTest(line):
                 account = sqlkeep.parse_account(f"  {line}\n")

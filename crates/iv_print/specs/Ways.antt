@@ -1,5 +1,5 @@
 -- A statement that is refused for a limit: what was counted, and which statements of triggers' bodies had begun in it.
-use Rattle.std.specs.Prelude.{ℕ, Bool, true, false, ◌==◌, if◌then◌else◌, List, [], ◌∷◌, ◌++◌, codes, decimal, length, Option, Some, None, Result, Ok, Err}
+use Rattle.std.specs.Prelude.{ℕ, suc, ◌-◌, Bool, true, false, ◌==◌, if◌then◌else◌, List, [], ◌∷◌, ◌++◌, codes, decimal, length, Option, Some, None, Result, Ok, Err}
 use Rattle.iv_catalogue.specs.Catalogues.{Schema, trigger_numbered}
 use Rattle.iv_catalogue.specs.declared.cause.Cause.{Cause}
 use Rattle.iv_catalogue.specs.declared.cause.Cause.TheVariants as cause

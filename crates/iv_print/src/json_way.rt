@@ -1,5 +1,5 @@
 //! The last entry of a statement that is refused for a limit, as JSON.
-ghost use Rattle.std.specs.Prelude.{◌++◌};
+ghost use Rattle.std.specs.Prelude.{◌≡◌, ◌++◌};
 ghost use Rattle.iv_print.specs.Json.{json_text};
 ghost use Rattle.iv_print.specs.JsonAccounts.{limit_entry, limit_object, limit_separator};
 ghost use Rattle.iv_print.specs.Ways.{limit_text};

@@ -196,7 +196,7 @@ class Account:
     @property
     def reason(self) -> Optional[Reason]:
         """Why the statement is refused, where its text and the catalogue tell it."""
-        return next((event for event in self.events if isinstance(event, Reason)), None)
+        return next((event for event in self.walk() if isinstance(event, Reason)), None)
 
     def walk(self) -> Iterator[Event]:
         """All events in their order, also those in triggers."""
@@ -267,6 +267,7 @@ REASONS = [
     r"statement \d+ (?:is|sets) [^\n]*",
     r"(?:there would be \d+|it would be trigger \d+) [^\n]*",
     r"savepoint \w+ isn't there",
+    rf"(?:item \d+|\w+)(?: (?:of|OLD|NEW) {WRITTEN})?(?:: -?\d+ [-+*] -?\d+ is out of range| is VARCHAR\(\d+\), and the text has \d+ characters)",
     r"depth \d+, and \d+ is the most[^\n]*",
     r"counted so far \d+, and the next row changes or statement are too many[^\n]*",
     r"a transaction has at most \d+ row changes[^\n]*",

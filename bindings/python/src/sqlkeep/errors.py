@@ -90,7 +90,7 @@ class Error(Exception):
 
     @property
     def reason(self) -> str | None:
-        """Why the statement was refused, for causes 3, 7, 8, 9, 16, 17, 18 and 21."""
+        """Why the statement was refused, for causes 3, 7 to 11, 16 to 18 and 21."""
         told = self.account.reason if self.account is not None else None
         return told.text if told is not None else None
 
