@@ -6,8 +6,9 @@ ghost use Rattle.iv_print.specs.Writing.{Writes};
 ghost use Rattle.iv_explain.specs.Expressions.{expression_text, further_name, literal_text, names_text, operator_text, qualifier_text, sign_before, sign_text, type_text};
 ghost use Rattle.iv_print.specs.Spelled.{spelled};
 
-use crate::counts::{tell_number, tell_number_between};
-use iv_print::{DeviceFault, Format, Sink, tell, tell_both, tell_quoted};
+use iv_print::{
+    DeviceFault, Format, Sink, tell, tell_both, tell_number, tell_number_between, tell_quoted,
+};
 use iv_syntax::{ColumnName, ColumnType, Expression, Literal, Name, Sign};
 
 fn tell_qualifier<W: Sink>(

@@ -7,8 +7,7 @@ ghost use Rattle.iv_resolve_name_faults.specs.Seen.{fault_seen, item_seen};
 ghost use Rattle.iv_explain.specs.Names.{column_text, fault_text, item_text};
 ghost use Rattle.iv_print.specs.Spelled.{spelled};
 
-use crate::counts::tell_number_after;
-use iv_print::{DeviceFault, Format, Sink, tell, tell_both};
+use iv_print::{DeviceFault, Format, Sink, tell, tell_both, tell_number_after};
 use iv_resolve_name_faults::{NameFault, NamedItem};
 
 // A column after the range or row variable that is written before it.

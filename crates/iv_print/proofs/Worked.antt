@@ -1,11 +1,13 @@
 -- The worked lines compute.
 use Rattle.std.proofs.Common.{refl}
 use Rattle.std.specs.Fmt.{digits}
+use Rattle.iv_print.specs.Rules.{names_listed, names_text, references_words}
+use Rattle.iv_print.specs.Ways.{limit_text, next_text}
 use Rattle.iv_print.specs.WorkedAccounts.{WorkedAccounts}
 use Rattle.iv_print.specs.WorkedConditions.{WorkedConditions, WorkedRules}
 
 pub accounts : WorkedAccounts
-unfolding digits
+unfolding digits limit_text next_text names_listed names_text references_words
 accounts = record {
   nothing_is_told = refl;
   changes = refl;
@@ -61,7 +63,7 @@ conditions = record {
 }
 
 pub rules : WorkedRules
-unfolding digits
+unfolding digits names_listed names_text references_words
 rules = record {
   not_null = refl;
   check = refl;

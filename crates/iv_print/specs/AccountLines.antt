@@ -283,7 +283,7 @@ abbrev pub failure_text : ValueFailure → List ℕ
 failure_text (OutOfRange left operator right) =
     codes ": " ++ (signed_decimal left ++ (operator_text operator ++ (signed_decimal right ++ codes " is out of range")))
 failure_text (TooLong most length) =
-    codes " is VARCHAR(" ++ (decimal most ++ (codes "), and the text has " ++ (decimal length ++ codes " characters")))
+    (codes " is VARCHAR(" ++ (decimal most ++ codes "), and the text has ")) ++ (decimal length ++ codes " characters")
 
 abbrev pub failure_line : Schema → ℕ → FailedEvaluation → List ℕ
 failure_line s depth f = indent depth ++ (evaluated_text s f.part f.row ++ (failure_text f.failure ++ codes "\n"))

@@ -1,5 +1,5 @@
 -- An account as JSON: an array of entries. The entries of a nested statement are an array in the entry with which it begins.
-use Rattle.std.specs.Prelude.{ℕ, zero, suc, Bool, true, false, if◌then◌else◌, List, [], ◌∷◌, ◌++◌, codes, decimal, slice_get, Option, Some, None, Result, Ok, Err}
+use Rattle.std.specs.Prelude.{ℕ, ℤ, zero, suc, Bool, true, false, if◌then◌else◌, List, [], ◌∷◌, ◌++◌, codes, decimal, slice_get, Option, Some, None, Result, Ok, Err}
 use Rattle.std.specs.List.{flat_map}
 use Rattle.std.specs.Fmt.{signed_decimal}
 use Rattle.iv_value.specs.declared.value.Value.{Value}
@@ -42,7 +42,8 @@ use Rattle.iv_print.specs.Conditions.{condition_text}
 use Rattle.iv_print.specs.declared.condition.Shown.TheVariants.{Names, Values}
 use Rattle.iv_print.specs.Rules.{columns_of, constraint_words}
 use Rattle.iv_print.specs.AccountLines.{column_name_in, depth_after, ends_next, table_name, truth_name}
-use Rattle.iv_print.specs.Ways.{is_limit, limit_text}
+use Rattle.iv_print.specs.Ways.{limit_of, limit_text}
+use Rattle.iv_print.specs.declared.way.Limit.{Limit}
 use Rattle.iv_print.specs.Json.{json_row, json_text, json_value, json_values, key, member}
 
 -- ---- rows and changes
@@ -240,13 +241,17 @@ operator_sign Plus = codes "+"
 operator_sign Minus = codes "-"
 operator_sign Times = codes "*"
 
+abbrev pub integer_member : List ℕ → ℤ → List ℕ
+integer_member name number = member name ++ signed_decimal number
+
+abbrev pub operator_member : Operator → List ℕ
+operator_member operator = member (codes "operator") ++ json_text (operator_sign operator)
+
 -- the two numbers and the operator, or the length of the column and that of the text
 abbrev pub failure_members : ValueFailure → List ℕ
 failure_members (OutOfRange left operator right) =
     because (codes "out_of_range")
-    ++ (member (codes "left")
-    ++ (signed_decimal left
-    ++ (member (codes "operator") ++ (json_text (operator_sign operator) ++ (member (codes "right") ++ signed_decimal right)))))
+    ++ (integer_member (codes "left") left ++ (operator_member operator ++ integer_member (codes "right") right))
 failure_members (TooLong most length) =
     because (codes "too_long") ++ (member (codes "most") ++ (decimal most ++ (member (codes "length") ++ decimal length)))
 
@@ -365,13 +370,13 @@ limit_separator [] = []
 limit_separator (entry ∷ entries) = codes ","
 
 -- which limit, and the way that led there
-abbrev pub limit_object : Schema → List Entry → Cause → List ℕ
-limit_object s entries c = entry_key (codes "limit") ++ (member (codes "text") ++ (json_text (limit_text s entries c) ++ codes "}"))
+abbrev pub limit_object : Schema → List Entry → Limit → List ℕ
+limit_object s entries limit = entry_key (codes "limit") ++ (member (codes "text") ++ (json_text (limit_text s entries limit) ++ codes "}"))
 
 -- the last entry of a statement that is refused for a limit
 abbrev pub limit_entry : Schema → List Entry → Result Answer Refusal → List ℕ
 limit_entry s entries (Ok a) = []
-limit_entry s entries (Err r) = if is_limit r.cause then limit_separator entries ++ limit_object s entries r.cause else []
+limit_entry s entries (Err r) = elim (limit_of r.cause) [ Some limit ↦ limit_separator entries ++ limit_object s entries limit | None ↦ [] ]
 
 -- The account of a statement with this outcome, with names as the catalogue has them after it.
 abbrev pub json_account : Schema → Result Answer Refusal → List Entry → List ℕ

@@ -29,12 +29,12 @@ name_at columns place = column_name (slice_get columns place)
 abbrev pub further_name : List Column → ℕ → List ℕ
 further_name columns place = codes ", " ++ name_at columns place
 
-abbrev pub names_text : List Column → List ℕ → List ℕ
+unfoldable pub names_text : List Column → List ℕ → List ℕ
 names_text columns [] = []
 names_text columns (place ∷ places) = name_at columns place ++ flat_map (further_name columns) places
 
 -- the names of the columns at these places, in parentheses
-abbrev pub names_listed : List Column → List ℕ → List ℕ
+unfoldable pub names_listed : List Column → List ℕ → List ℕ
 names_listed columns places = codes " (" ++ (names_text columns places ++ codes ")")
 
 abbrev pub nulls_words : NullTreatment → List ℕ
@@ -46,7 +46,7 @@ match_words Simple = []
 match_words Full = codes " MATCH FULL"
 
 -- the table and the columns that a foreign key refers to
-abbrev pub references_words : Schema → ForeignKey → List ℕ
+unfoldable pub references_words : Schema → ForeignKey → List ℕ
 references_words s k =
     codes " REFERENCES "
     ++ (table_name (slice_get s.tables k.referenced)

@@ -12,6 +12,8 @@ use Rattle.iv_print.specs.Counts.{counted}
 use Rattle.iv_print.specs.Lines.{trigger_name}
 use Rattle.iv_print.specs.declared.way.Begun.{Begun}
 use Rattle.iv_print.specs.declared.way.Latest.{Latest}
+use Rattle.iv_print.specs.declared.way.Limit.{Limit}
+use Rattle.iv_print.specs.declared.way.Limit.TheVariants.{Depth, Changes, Transaction}
 
 -- ---- how deep
 
@@ -61,7 +63,7 @@ begun_text s (Some b) = name_of_trigger s b.trigger ++ (codes " statement " ++ d
 begun_text s None = []
 
 -- the one at this level, after another
-abbrev pub next_text : Schema → List Entry → ℕ → List ℕ
+unfoldable pub next_text : Schema → List Entry → ℕ → List ℕ
 next_text s entries level = codes ", " ++ begun_text s (begun_at level entries)
 
 -- What follows the first three of so many further ones: the fourth if it is the last, and otherwise only the last.
@@ -96,28 +98,28 @@ used_from used (entry ∷ entries) = used_from (used_after used entry) entries
 
 -- ---- the limit
 
-abbrev pub is_limit : Cause → Bool
-is_limit (cause.DepthLimit id) = true
-is_limit cause.TooManyChanges = true
-is_limit cause.TransactionTooLarge = true
-is_limit _ = false
+abbrev pub limit_of : Cause → Option Limit
+limit_of (cause.DepthLimit id) = Some Depth
+limit_of cause.TooManyChanges = Some Changes
+limit_of cause.TransactionTooLarge = Some Transaction
+limit_of _ = None
 
 -- The statement that would be so deep is not begun: the script's own is at depth 1.
 abbrev pub depth_words : ℕ → List ℕ
 depth_words depth = (codes "depth " ++ decimal (counted depth 1)) ++ (codes ", and " ++ (decimal depth ++ codes " is the most"))
 
 -- which limit, and what was counted
-abbrev pub limit_words : List Entry → ℕ → Cause → List ℕ
-limit_words entries depth (cause.DepthLimit id) = depth_words depth
-limit_words entries depth cause.TooManyChanges =
-    codes "counted so far " ++ (decimal (used_from 1 entries) ++ codes ", and the next row changes or statement are too many")
-limit_words entries depth _ = codes "a transaction has at most " ++ (decimal most_changes_in_a_transaction ++ codes " row changes")
+abbrev pub limit_words : List Entry → ℕ → Limit → List ℕ
+limit_words entries depth Depth = depth_words depth
+limit_words entries depth Changes =
+    codes "counted so far " ++ (decimal (used_from 1 entries) ++ codes ", and this or the next row changes are too many")
+limit_words entries depth Transaction = codes "a transaction has at most " ++ (decimal most_changes_in_a_transaction ++ codes " row changes")
 
 -- with the way that led there
-abbrev pub limit_text : Schema → List Entry → Cause → List ℕ
-limit_text s entries c = limit_words entries (depth_from 0 entries) c ++ way_text s entries (depth_from 0 entries)
+unfoldable pub limit_text : Schema → List Entry → Limit → List ℕ
+limit_text s entries limit = limit_words entries (depth_from 0 entries) limit ++ way_text s entries (depth_from 0 entries)
 
 -- a line for a statement that is refused for a limit
 abbrev pub limit_line : Schema → List Entry → Result Answer Refusal → List ℕ
 limit_line s entries (Ok a) = []
-limit_line s entries (Err r) = if is_limit r.cause then codes "  " ++ (limit_text s entries r.cause ++ codes "\n") else []
+limit_line s entries (Err r) = elim (limit_of r.cause) [ Some limit ↦ codes "  " ++ (limit_text s entries limit ++ codes "\n") | None ↦ [] ]

@@ -4,7 +4,6 @@ ghost use Rattle.std.specs.List.{flat_map};
 ghost use Rattle.std.specs.Option.{option_copied};
 ghost use Rattle.iv_print.specs.Lines.{table_name};
 ghost use Rattle.iv_print.specs.Rules.{after_front, begins_with_digit, columns_of, constraint_words, described_text, further_name, has_number, is_generated, match_words, name_at, names_listed, names_text, nulls_words, references_words, rule_words, words_if};
-ghost use Rattle.iv_catalogue.specs.declared.constraint.Rule.TheVariants as rule;
 ghost use Rattle.iv_print.specs.Spelled.{spelled};
 ghost use Rattle.iv_print.specs.Writing.{Writes};
 
@@ -66,7 +65,35 @@ fn tell_more_names<W: Sink>(
     Ok(())
 }
 
+fn tell_name<W: Sink>(
+    writer: &mut W,
+    format: Format,
+    columns: &[Column],
+    place: u32,
+) -> Result<(), DeviceFault>
+    ensures { Writes (W.state writer.old) (W.state writer.new) result
+        (spelled format (name_at columns.now place)) }
+{
+    tell(writer, format, name_at(columns, place))
+}
+
+// A name and further ones.
 #[tactic(auto, using(crate::proofs::SpelledLemmas::spelled_then))]
+fn tell_some_names<W: Sink>(
+    writer: &mut W,
+    format: Format,
+    columns: &[Column],
+    place: u32,
+    more: &[u32],
+) -> Result<(), DeviceFault>
+    ensures { Writes (W.state writer.old) (W.state writer.new) result
+        (spelled format (name_at columns.now place ++ flat_map (further_name columns.now) more.now)) }
+{
+    tell_name(writer, format, columns, place)?;
+    tell_more_names(writer, format, columns, more)
+}
+
+#[tactic(auto, unfolding(crate::specs::Rules::names_text))]
 fn tell_names<W: Sink>(
     writer: &mut W,
     format: Format,
@@ -78,15 +105,30 @@ fn tell_names<W: Sink>(
 {
     match places {
         [] => tell(writer, format, b""),
-        [place, more @ ..] => {
-            tell(writer, format, name_at(columns, *place))?;
-            tell_more_names(writer, format, columns, more)
-        }
+        [place, more @ ..] => tell_some_names(writer, format, columns, *place, more),
     }
 }
 
-// The names in parentheses.
+// The names between these texts.
 #[tactic(auto, using(crate::proofs::SpelledLemmas::spelled_then))]
+fn tell_names_between<W: Sink>(
+    writer: &mut W,
+    format: Format,
+    before: &[u8],
+    columns: &[Column],
+    places: &[u32],
+    after: &[u8],
+) -> Result<(), DeviceFault>
+    ensures { Writes (W.state writer.old) (W.state writer.new) result
+        (spelled format (before.now ++ (names_text columns.now places.now ++ after.now))) }
+{
+    tell(writer, format, before)?;
+    tell_names(writer, format, columns, places)?;
+    tell(writer, format, after)
+}
+
+// The names in parentheses.
+#[tactic(auto, unfolding(crate::specs::Rules::names_listed))]
 fn tell_listed<W: Sink>(
     writer: &mut W,
     format: Format,
@@ -96,9 +138,7 @@ fn tell_listed<W: Sink>(
     ensures { Writes (W.state writer.old) (W.state writer.new) result
         (spelled format (names_listed columns.now places.now)) }
 {
-    tell(writer, format, b" (")?;
-    tell_names(writer, format, columns, places)?;
-    tell(writer, format, b")")
+    tell_names_between(writer, format, b" (", columns, places, b")")
 }
 
 // ---- rules
@@ -137,7 +177,23 @@ fn tell_key<W: Sink>(
     tell_listed(writer, format, columns, places)
 }
 
+// Words, further words, and the names of columns after them.
 #[tactic(auto, using(crate::proofs::SpelledLemmas::spelled_then))]
+fn tell_key_words<W: Sink>(
+    writer: &mut W,
+    format: Format,
+    words: &str,
+    further: &str,
+    columns: &[Column],
+    places: &[u32],
+) -> Result<(), DeviceFault>
+    ensures { Writes (W.state writer.old) (W.state writer.new) result
+        (spelled format (words.now ++ (further.now ++ names_listed columns.now places.now))) }
+{
+    tell(writer, format, words.as_bytes())?;
+    tell_key(writer, format, further, columns, places)
+}
+
 fn tell_unique<W: Sink>(
     writer: &mut W,
     format: Format,
@@ -148,8 +204,14 @@ fn tell_unique<W: Sink>(
     ensures { Writes (W.state writer.old) (W.state writer.new) result
         (spelled format (codes "UNIQUE" ++ (nulls_words nulls ++ names_listed columns.now places.now))) }
 {
-    tell(writer, format, b"UNIQUE")?;
-    tell_key(writer, format, nulls_words(nulls), columns, places)
+    tell_key_words(
+        writer,
+        format,
+        "UNIQUE",
+        nulls_words(nulls),
+        columns,
+        places,
+    )
 }
 
 fn table_name<'a>(table: Option<&'a Table>) -> &'a str
@@ -161,8 +223,25 @@ fn table_name<'a>(table: Option<&'a Table>) -> &'a str
     }
 }
 
-// The columns that a foreign key refers to, after their table.
+// The names of columns between these texts.
 #[tactic(auto, using(crate::proofs::SpelledLemmas::spelled_then))]
+fn tell_listed_between<W: Sink>(
+    writer: &mut W,
+    format: Format,
+    before: &str,
+    columns: &[Column],
+    places: &[u32],
+    after: &str,
+) -> Result<(), DeviceFault>
+    ensures { Writes (W.state writer.old) (W.state writer.new) result
+        (spelled format (before.now ++ (names_listed columns.now places.now ++ after.now))) }
+{
+    tell(writer, format, before.as_bytes())?;
+    tell_listed(writer, format, columns, places)?;
+    tell(writer, format, after.as_bytes())
+}
+
+// The columns that a foreign key refers to, after their table.
 fn tell_referenced<W: Sink>(
     writer: &mut W,
     format: Format,
@@ -173,12 +252,35 @@ fn tell_referenced<W: Sink>(
         (spelled format (table_name (option_copied table.entry)
         ++ (names_listed (columns_of (option_copied table.entry)) key.now.key ++ match_words key.now.matching))) }
 {
-    tell(writer, format, table_name(table).as_bytes())?;
-    tell_listed(writer, format, columns_of(table), key.key.as_slice())?;
-    tell(writer, format, match_words(key.matching).as_bytes())
+    tell_listed_between(
+        writer,
+        format,
+        table_name(table),
+        columns_of(table),
+        key.key.as_slice(),
+        match_words(key.matching),
+    )
+}
+
+// The same after these words.
+#[tactic(auto, using(crate::proofs::SpelledLemmas::spelled_then))]
+fn tell_referenced_after<W: Sink>(
+    writer: &mut W,
+    format: Format,
+    words: &str,
+    table: Option<&Table>,
+    key: &ForeignKey,
+) -> Result<(), DeviceFault>
+    ensures { Writes (W.state writer.old) (W.state writer.new) result
+        (spelled format (words.now ++ (table_name (option_copied table.entry)
+        ++ (names_listed (columns_of (option_copied table.entry)) key.now.key ++ match_words key.now.matching)))) }
+{
+    tell(writer, format, words.as_bytes())?;
+    tell_referenced(writer, format, table, key)
 }
 
 // The table and the columns that a foreign key refers to.
+#[tactic(auto, unfolding(crate::specs::Rules::references_words))]
 fn tell_references<W: Sink>(
     writer: &mut W,
     format: Format,
@@ -188,27 +290,30 @@ fn tell_references<W: Sink>(
     ensures { Writes (W.state writer.old) (W.state writer.new) result
         (spelled format (references_words catalogue.now key.now)) }
 {
-    tell(writer, format, b" REFERENCES ")?;
-    tell_referenced(writer, format, catalogue.table(key.referenced), key)
+    tell_referenced_after(
+        writer,
+        format,
+        " REFERENCES ",
+        catalogue.table(key.referenced),
+        key,
+    )
 }
 
+// A foreign key after these words.
+#[tactic(auto, using(crate::proofs::SpelledLemmas::spelled_then))]
 fn tell_foreign_key<W: Sink>(
     writer: &mut W,
     format: Format,
+    words: &str,
     catalogue: &Catalogue,
     columns: &[Column],
     key: &ForeignKey,
 ) -> Result<(), DeviceFault>
     ensures { Writes (W.state writer.old) (W.state writer.new) result
-        (spelled format (rule_words catalogue.now columns.now (rule.ForeignKey key.now))) }
+        (spelled format (words.now ++ (names_listed columns.now key.now.columns ++ references_words catalogue.now key.now))) }
 {
-    tell_key(
-        writer,
-        format,
-        "FOREIGN KEY",
-        columns,
-        key.columns.as_slice(),
-    )?;
+    tell(writer, format, words.as_bytes())?;
+    tell_listed(writer, format, columns, key.columns.as_slice())?;
     tell_references(writer, format, catalogue, key)
 }
 
@@ -238,7 +343,14 @@ fn tell_rule<W: Sink>(
             columns,
             places.as_slice(),
         ),
-        Rule::ForeignKey(key) => tell_foreign_key(writer, format, catalogue, columns, key),
+        Rule::ForeignKey(key) => tell_foreign_key(
+            writer,
+            format,
+            "FOREIGN KEY",
+            catalogue,
+            columns,
+            key,
+        ),
     }
 }
 

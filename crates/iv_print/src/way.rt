@@ -1,13 +1,14 @@
 //! A statement that is refused for a limit: what was counted, and which statements of triggers' bodies had begun in it.
-ghost use Rattle.std.specs.Prelude.{◌≡◌, ◌<◌, ◌^◌, ◌-◌, ◌++◌, codes, decimal, slice_get};
+ghost use Rattle.std.specs.Prelude.{◌≡◌, ◌<◌, ◌^◌, ◌-◌, ◌++◌, [], Some, None, codes, decimal};
 ghost use Rattle.iv_print.specs.Counts.{counted};
 ghost use Rattle.iv_print.specs.Spelled.{spelled};
-ghost use Rattle.iv_print.specs.Ways.{begun_at, begun_text, depth_after, depth_from, depth_words, further_text, is_limit, last_text, latest_after, latest_from, limit_line, limit_text, limit_words, name_of_trigger, next_text, third_text, used_after, used_from, way_text};
+ghost use Rattle.iv_print.specs.Ways.{begun_at, begun_text, depth_after, depth_from, depth_words, further_text, last_text, latest_after, latest_from, limit_line, limit_of, limit_text, limit_words, name_of_trigger, next_text, third_text, used_after, used_from, way_text};
 ghost use Rattle.iv_print.specs.Writing.{Writes};
 
 use crate::device::{DeviceFault, Sink};
 use crate::format::Format;
-use crate::spelled::{tell, tell_between, tell_both};
+use crate::spelled::{tell, tell_between};
+use crate::spelled_number::{tell_number_after, tell_number_between};
 use crate::write::write_all;
 use itoa::Buffer;
 use iv_account::Entry;
@@ -134,8 +135,39 @@ fn tell_begun<W: Sink>(
     }
 }
 
-// The statement at this level, after another.
+// The statement at this level.
+fn tell_begun_at<W: Sink>(
+    writer: &mut W,
+    format: Format,
+    catalogue: &Catalogue,
+    entries: &[Entry],
+    level: usize,
+) -> Result<(), DeviceFault>
+    ensures { Writes (W.state writer.old) (W.state writer.new) result
+        (spelled format (begun_text catalogue.now (begun_at level entries.now))) }
+{
+    tell_begun(writer, format, catalogue, begun_at(level, entries))
+}
+
+// The same after these words.
 #[tactic(auto, using(crate::proofs::SpelledLemmas::spelled_then))]
+fn tell_begun_after<W: Sink>(
+    writer: &mut W,
+    format: Format,
+    words: &[u8],
+    catalogue: &Catalogue,
+    entries: &[Entry],
+    level: usize,
+) -> Result<(), DeviceFault>
+    ensures { Writes (W.state writer.old) (W.state writer.new) result
+        (spelled format (words.now ++ begun_text catalogue.now (begun_at level entries.now))) }
+{
+    tell(writer, format, words)?;
+    tell_begun_at(writer, format, catalogue, entries, level)
+}
+
+// The statement at this level, after another.
+#[tactic(auto, unfolding(crate::specs::Ways::next_text))]
 fn tell_next<W: Sink>(
     writer: &mut W,
     format: Format,
@@ -146,12 +178,27 @@ fn tell_next<W: Sink>(
     ensures { Writes (W.state writer.old) (W.state writer.new) result
         (spelled format (next_text catalogue.now entries.now level)) }
 {
-    tell(writer, format, b", ")?;
-    tell_begun(writer, format, catalogue, begun_at(level, entries))
+    tell_begun_after(writer, format, b", ", catalogue, entries, level)
+}
+
+// The same after these words.
+#[tactic(auto, using(crate::proofs::SpelledLemmas::spelled_then))]
+fn tell_next_after<W: Sink>(
+    writer: &mut W,
+    format: Format,
+    words: &[u8],
+    catalogue: &Catalogue,
+    entries: &[Entry],
+    level: usize,
+) -> Result<(), DeviceFault>
+    ensures { Writes (W.state writer.old) (W.state writer.new) result
+        (spelled format (words.now ++ next_text catalogue.now entries.now level)) }
+{
+    tell(writer, format, words)?;
+    tell_next(writer, format, catalogue, entries, level)
 }
 
 // What follows the first three of so many further ones.
-#[tactic(auto, using(crate::proofs::SpelledLemmas::spelled_then))]
 fn tell_last<W: Sink>(
     writer: &mut W,
     format: Format,
@@ -167,12 +214,25 @@ fn tell_last<W: Sink>(
     } else if more == 3 {
         tell_next(writer, format, catalogue, entries, 3)
     } else {
-        tell(writer, format, b", ..")?;
-        tell_next(writer, format, catalogue, entries, more)
+        tell_next_after(writer, format, b", ..", catalogue, entries, more)
     }
 }
 
 #[tactic(auto, using(crate::proofs::SpelledLemmas::spelled_then))]
+fn tell_third_and_last<W: Sink>(
+    writer: &mut W,
+    format: Format,
+    catalogue: &Catalogue,
+    entries: &[Entry],
+    more: usize,
+) -> Result<(), DeviceFault>
+    ensures { Writes (W.state writer.old) (W.state writer.new) result
+        (spelled format (next_text catalogue.now entries.now 2 ++ last_text catalogue.now entries.now more)) }
+{
+    tell_next(writer, format, catalogue, entries, 2)?;
+    tell_last(writer, format, catalogue, entries, more)
+}
+
 fn tell_third<W: Sink>(
     writer: &mut W,
     format: Format,
@@ -186,13 +246,26 @@ fn tell_third<W: Sink>(
     if more == 1 {
         tell(writer, format, b"")
     } else {
-        tell_next(writer, format, catalogue, entries, 2)?;
-        tell_last(writer, format, catalogue, entries, more)
+        tell_third_and_last(writer, format, catalogue, entries, more)
     }
 }
 
-// Those after the first.
 #[tactic(auto, using(crate::proofs::SpelledLemmas::spelled_then))]
+fn tell_second_and_third<W: Sink>(
+    writer: &mut W,
+    format: Format,
+    catalogue: &Catalogue,
+    entries: &[Entry],
+    more: usize,
+) -> Result<(), DeviceFault>
+    ensures { Writes (W.state writer.old) (W.state writer.new) result
+        (spelled format (next_text catalogue.now entries.now 1 ++ third_text catalogue.now entries.now more)) }
+{
+    tell_next(writer, format, catalogue, entries, 1)?;
+    tell_third(writer, format, catalogue, entries, more)
+}
+
+// Those after the first.
 fn tell_further<W: Sink>(
     writer: &mut W,
     format: Format,
@@ -206,13 +279,30 @@ fn tell_further<W: Sink>(
     if more == 0 {
         tell(writer, format, b"")
     } else {
-        tell_next(writer, format, catalogue, entries, 1)?;
-        tell_third(writer, format, catalogue, entries, more)
+        tell_second_and_third(writer, format, catalogue, entries, more)
     }
 }
 
-// The statements that have begun and not ended.
+// The first after these words, and so many further ones.
 #[tactic(auto, using(crate::proofs::SpelledLemmas::spelled_then))]
+fn tell_some<W: Sink>(
+    writer: &mut W,
+    format: Format,
+    words: &[u8],
+    catalogue: &Catalogue,
+    entries: &[Entry],
+    more: usize,
+) -> Result<(), DeviceFault>
+    ensures { Writes (W.state writer.old) (W.state writer.new) result
+        (spelled format (words.now
+        ++ (begun_text catalogue.now (begun_at 0 entries.now) ++ further_text catalogue.now entries.now more))) }
+{
+    tell(writer, format, words)?;
+    tell_begun_at(writer, format, catalogue, entries, 0)?;
+    tell_further(writer, format, catalogue, entries, more)
+}
+
+// The statements that have begun and not ended.
 fn tell_way<W: Sink>(
     writer: &mut W,
     format: Format,
@@ -226,9 +316,7 @@ fn tell_way<W: Sink>(
     if depth == 0 {
         tell(writer, format, b"")
     } else {
-        tell(writer, format, b": ")?;
-        tell_begun(writer, format, catalogue, begun_at(0, entries))?;
-        tell_further(writer, format, catalogue, entries, depth - 1)
+        tell_some(writer, format, b": ", catalogue, entries, depth - 1)
     }
 }
 
@@ -259,34 +347,62 @@ fn used(entries: &[Entry]) -> u64
 
 // ---- the limit
 
-/// Whether the cause is a limit of depth or of row changes.
-pub(crate) fn is_limit(cause: &Cause) -> bool
-    ensures { result ≡ is_limit cause.now }
-{
-    matches!(
-        cause,
-        Cause::DepthLimit(_) | Cause::TooManyChanges | Cause::TransactionTooLarge
-    )
+/// A limit of depth or of row changes.
+#[derive(Clone, Copy, Debug, PartialEq, Eq)]
+pub enum Limit {
+    Depth,
+    Changes,
+    Transaction,
 }
 
+/// The limit for which a statement is refused.
+pub(crate) fn limit_of(cause: &Cause) -> Option<Limit>
+    ensures { result ≡ limit_of cause.now }
+{
+    match cause {
+        Cause::DepthLimit(_) => Some(Limit::Depth),
+        Cause::TooManyChanges => Some(Limit::Changes),
+        Cause::TransactionTooLarge => Some(Limit::Transaction),
+        _ => None,
+    }
+}
+
+// One deeper.
+fn deeper(depth: usize) -> u128
+    ensures { result ≡ counted depth 1 }
+{
+    depth.saturating_add(1) as u128
+}
+
+// Two numbers between these words.
 #[tactic(auto, using(crate::proofs::SpelledLemmas::spelled_then))]
+fn tell_most<W: Sink>(
+    writer: &mut W,
+    format: Format,
+    before: &[u8],
+    asked: u128,
+    between: &[u8],
+    most: u128,
+    after: &[u8],
+) -> Result<(), DeviceFault>
+    ensures { Writes (W.state writer.old) (W.state writer.new) result
+        (spelled format ((before.now ++ decimal asked) ++ (between.now ++ (decimal most ++ after.now)))) }
+{
+    tell_number_after(writer, format, before, asked)?;
+    tell_number_between(writer, format, between, most, after)
+}
+
 fn tell_depth<W: Sink>(writer: &mut W, format: Format, depth: usize) -> Result<(), DeviceFault>
     ensures { Writes (W.state writer.old) (W.state writer.new) result
         (spelled format (depth_words depth)) }
 {
-    let mut asked = Buffer::new();
-    let mut most = Buffer::new();
-    tell_both(
+    tell_most(
         writer,
         format,
         b"depth ",
-        asked.format(depth.saturating_add(1)).as_bytes(),
-    )?;
-    tell_between(
-        writer,
-        format,
+        deeper(depth),
         b", and ",
-        most.format(depth).as_bytes(),
+        depth as u128,
         b" is the most",
     )
 }
@@ -297,45 +413,44 @@ fn tell_words<W: Sink>(
     format: Format,
     entries: &[Entry],
     depth: usize,
-    cause: &Cause,
+    limit: Limit,
 ) -> Result<(), DeviceFault>
     ensures { Writes (W.state writer.old) (W.state writer.new) result
-        (spelled format (limit_words entries.now depth cause.now)) }
+        (spelled format (limit_words entries.now depth limit)) }
 {
-    let mut buffer = Buffer::new();
-    match cause {
-        Cause::DepthLimit(_) => tell_depth(writer, format, depth),
-        Cause::TooManyChanges => tell_between(
+    match limit {
+        Limit::Depth => tell_depth(writer, format, depth),
+        Limit::Changes => tell_number_between(
             writer,
             format,
             b"counted so far ",
-            buffer.format(used(entries)).as_bytes(),
-            b", and the next row changes or statement are too many",
+            u128::from(used(entries)),
+            b", and this or the next row changes are too many",
         ),
-        _ => tell_between(
+        Limit::Transaction => tell_number_between(
             writer,
             format,
             b"a transaction has at most ",
-            buffer.format(MOST_CHANGES_IN_A_TRANSACTION).as_bytes(),
+            u128::from(MOST_CHANGES_IN_A_TRANSACTION),
             b" row changes",
         ),
     }
 }
 
 /// Writes which limit a statement with this account is refused for, what was counted, and the way that led there.
-#[tactic(auto, using(crate::proofs::SpelledLemmas::spelled_then))]
+#[tactic(auto, using(crate::proofs::SpelledLemmas::spelled_then), unfolding(crate::specs::Ways::limit_text))]
 pub(crate) fn tell_limit<W: Sink>(
     writer: &mut W,
     format: Format,
     catalogue: &Catalogue,
     entries: &[Entry],
-    cause: &Cause,
+    limit: Limit,
 ) -> Result<(), DeviceFault>
     ensures { Writes (W.state writer.old) (W.state writer.new) result
-        (spelled format (limit_text catalogue.now entries.now cause.now)) }
+        (spelled format (limit_text catalogue.now entries.now limit)) }
 {
     let depth = depth_of(entries);
-    tell_words(writer, format, entries, depth, cause)?;
+    tell_words(writer, format, entries, depth, limit)?;
     tell_way(writer, format, catalogue, entries, depth)
 }
 
@@ -346,26 +461,41 @@ fn write_limit<W: Sink>(
     sink: &mut W,
     catalogue: &Catalogue,
     entries: &[Entry],
-    cause: &Cause,
+    limit: Limit,
 ) -> Result<(), DeviceFault>
     ensures { Writes (W.state sink.old) (W.state sink.new) result
-        (limit_text catalogue.now entries.now cause.now) }
+        (limit_text catalogue.now entries.now limit) }
 {
-    tell_limit(sink, Format::Words, catalogue, entries, cause)
+    tell_limit(sink, Format::Words, catalogue, entries, limit)
 }
 
 fn write_line<W: Sink>(
     sink: &mut W,
     catalogue: &Catalogue,
     entries: &[Entry],
-    cause: &Cause,
+    limit: Limit,
 ) -> Result<(), DeviceFault>
     ensures { Writes (W.state sink.old) (W.state sink.new) result
-        (codes "  " ++ (limit_text catalogue.now entries.now cause.now ++ codes "\n")) }
+        (codes "  " ++ (limit_text catalogue.now entries.now limit ++ codes "\n")) }
 {
     write_all(sink, b"  ")?;
-    write_limit(sink, catalogue, entries, cause)?;
+    write_limit(sink, catalogue, entries, limit)?;
     write_all(sink, b"\n")
+}
+
+fn write_line_of<W: Sink>(
+    sink: &mut W,
+    catalogue: &Catalogue,
+    entries: &[Entry],
+    limit: Option<Limit>,
+) -> Result<(), DeviceFault>
+    ensures { Writes (W.state sink.old) (W.state sink.new) result
+        (elim limit [ Some l ↦ codes "  " ++ (limit_text catalogue.now entries.now l ++ codes "\n") | None ↦ [] ]) }
+{
+    match limit {
+        Some(limit) => write_line(sink, catalogue, entries, limit),
+        None => write_all(sink, b""),
+    }
 }
 
 /// The line of a statement that is refused for a limit.
@@ -379,9 +509,7 @@ pub(crate) fn write_limit_line<W: Sink>(
         (limit_line catalogue.now entries.now outcome.now) }
 {
     match outcome {
-        Err(refusal) if is_limit(&refusal.cause) => {
-            write_line(sink, catalogue, entries, &refusal.cause)
-        }
-        _ => write_all(sink, b""),
+        Ok(_) => write_all(sink, b""),
+        Err(refusal) => write_line_of(sink, catalogue, entries, limit_of(&refusal.cause)),
     }
 }
