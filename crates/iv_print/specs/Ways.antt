@@ -108,12 +108,17 @@ limit_of _ = None
 abbrev pub depth_words : ℕ → List ℕ
 depth_words depth = (codes "depth " ++ decimal (counted depth 1)) ++ (codes ", and " ++ (decimal depth ++ codes " is the most"))
 
+abbrev pub used_words : List Entry → List ℕ
+used_words entries = codes "counted so far " ++ (decimal (used_from 1 entries) ++ codes ", and this or the next row changes are too many")
+
+abbrev pub transaction_words : List ℕ
+transaction_words = codes "a transaction has at most " ++ (decimal most_changes_in_a_transaction ++ codes " row changes")
+
 -- which limit, and what was counted
 abbrev pub limit_words : List Entry → ℕ → Limit → List ℕ
 limit_words entries depth Depth = depth_words depth
-limit_words entries depth Changes =
-    codes "counted so far " ++ (decimal (used_from 1 entries) ++ codes ", and this or the next row changes are too many")
-limit_words entries depth Transaction = codes "a transaction has at most " ++ (decimal most_changes_in_a_transaction ++ codes " row changes")
+limit_words entries depth Changes = used_words entries
+limit_words entries depth Transaction = transaction_words
 
 -- with the way that led there
 unfoldable pub limit_text : Schema → List Entry → Limit → List ℕ

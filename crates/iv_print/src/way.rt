@@ -2,7 +2,8 @@
 ghost use Rattle.std.specs.Prelude.{◌≡◌, ◌<◌, ◌^◌, ◌-◌, ◌++◌, [], Some, None, codes, decimal};
 ghost use Rattle.iv_print.specs.Counts.{counted};
 ghost use Rattle.iv_print.specs.Spelled.{spelled};
-ghost use Rattle.iv_print.specs.Ways.{begun_at, begun_text, depth_after, depth_from, depth_words, further_text, last_text, latest_after, latest_from, limit_line, limit_of, limit_text, limit_words, name_of_trigger, next_text, third_text, used_after, used_from, way_text};
+ghost use Rattle.iv_print.specs.Ways.{begun_at, begun_text, depth_after, depth_from, depth_words, further_text, last_text, latest_after, latest_from, limit_line, limit_of, limit_text, limit_words, name_of_trigger, next_text, third_text, transaction_words, used_after, used_from, used_words, way_text};
+ghost use Rattle.iv_machine.specs.Bounds.{most_changes_in_a_transaction};
 ghost use Rattle.iv_print.specs.Writing.{Writes};
 
 use crate::device::{DeviceFault, Sink};
@@ -407,6 +408,43 @@ fn tell_depth<W: Sink>(writer: &mut W, format: Format, depth: usize) -> Result<(
     )
 }
 
+fn used_so_far(entries: &[Entry]) -> u128
+    ensures { result ≡ used_from 1 entries.now }
+{
+    u128::from(used(entries))
+}
+
+fn tell_used<W: Sink>(writer: &mut W, format: Format, entries: &[Entry]) -> Result<(), DeviceFault>
+    ensures { Writes (W.state writer.old) (W.state writer.new) result
+        (spelled format (used_words entries.now)) }
+{
+    tell_number_between(
+        writer,
+        format,
+        b"counted so far ",
+        used_so_far(entries),
+        b", and this or the next row changes are too many",
+    )
+}
+
+fn most_in_a_transaction() -> u128
+    ensures { result ≡ most_changes_in_a_transaction }
+{
+    u128::from(MOST_CHANGES_IN_A_TRANSACTION)
+}
+
+fn tell_transaction<W: Sink>(writer: &mut W, format: Format) -> Result<(), DeviceFault>
+    ensures { Writes (W.state writer.old) (W.state writer.new) result (spelled format transaction_words) }
+{
+    tell_number_between(
+        writer,
+        format,
+        b"a transaction has at most ",
+        most_in_a_transaction(),
+        b" row changes",
+    )
+}
+
 // Which limit, and what was counted.
 fn tell_words<W: Sink>(
     writer: &mut W,
@@ -420,20 +458,8 @@ fn tell_words<W: Sink>(
 {
     match limit {
         Limit::Depth => tell_depth(writer, format, depth),
-        Limit::Changes => tell_number_between(
-            writer,
-            format,
-            b"counted so far ",
-            u128::from(used(entries)),
-            b", and this or the next row changes are too many",
-        ),
-        Limit::Transaction => tell_number_between(
-            writer,
-            format,
-            b"a transaction has at most ",
-            u128::from(MOST_CHANGES_IN_A_TRANSACTION),
-            b" row changes",
-        ),
+        Limit::Changes => tell_used(writer, format, entries),
+        Limit::Transaction => tell_transaction(writer, format),
     }
 }
 
