@@ -26,32 +26,32 @@ before_end None ws other h = refl
 before_end (Some r) ws other h = absurd (false≢true (sym h))
 
 -- END is next
-pub ends : (all : List Word) (c n : At) → Peeks (after kind.End) all c true n → Reads read_ended_action all c (Ok None) n
+pub ends : (c n : At) → Peeks (after kind.End) c true n → Reads read_ended_action c (Ok None) n
 unfolding read_ended_action
-ends all c n peek o l =
+ends c n peek o l =
     let q = peek o l in
     (q.0, at_end (after kind.End (ahead c o)) (ahead c o) (then_read (read_with_semicolon (ahead c o)) one_found) q.2 ∙ ap (λ w. Some (None, w)) (sym q.1))
 
-before : (all : List Word) (c : At) (o : Other) → is_some (after kind.End (ahead c o)) ≡ false → read_ended_action (ahead c o) ≡ then_read (read_with_semicolon (ahead c o)) one_found
+before : (c : At) (o : Other) → is_some (after kind.End (ahead c o)) ≡ false → read_ended_action (ahead c o) ≡ then_read (read_with_semicolon (ahead c o)) one_found
 unfolding read_ended_action
-before all c o h = before_end (after kind.End (ahead c o)) (ahead c o) (then_read (read_with_semicolon (ahead c o)) one_found) h
+before c o h = before_end (after kind.End (ahead c o)) (ahead c o) (then_read (read_with_semicolon (ahead c o)) one_found) h
 
 -- an action is next
-pub goes_on : (all : List Word) (c m n : At) (a : TriggerAction) → Peeks (after kind.End) all c false m → Reads read_with_semicolon all m (Ok a) n → Reads read_ended_action all c (Ok (Some a)) n
-goes_on all c m n a peek h o l =
+pub goes_on : (c m n : At) (a : TriggerAction) → Peeks (after kind.End) c false m → Reads read_with_semicolon m (Ok a) n → Reads read_ended_action c (Ok (Some a)) n
+goes_on c m n a peek h o l =
     let p = h o l in
     let q = peek o p.0 in
-    (q.0, before all c o q.2 ∙ (ap (λ w. then_read (read_with_semicolon w) one_found) (sym q.1) ∙ ap (λ r. then_read r one_found) p.1))
+    (q.0, before c o q.2 ∙ (ap (λ w. then_read (read_with_semicolon w) one_found) (sym q.1) ∙ ap (λ r. then_read r one_found) p.1))
 
-pub goes_wrong : (all : List Word) (c m n : At) (r : Result (Option TriggerAction) Stop) (e : Stop) → Peeks (after kind.End) all c false m → Reads read_with_semicolon all m (Err e) n
-    → IsErr r × IsErrAnd r (λ y. y ≡ e) → Reads read_ended_action all c r n
-goes_wrong all c m n r e peek h i o l =
+pub goes_wrong : (c m n : At) (r : Result (Option TriggerAction) Stop) (e : Stop) → Peeks (after kind.End) c false m → Reads read_with_semicolon m (Err e) n
+    → IsErr r × IsErrAnd r (λ y. y ≡ e) → Reads read_ended_action c r n
+goes_wrong c m n r e peek h i o l =
     let p = h o l in
     let q = peek o p.0 in (
       q.0,
       told (λ x. x) r e (read_ended_action (ahead c o)) (ahead n o) i
           (stop_in e (read_with_semicolon (ahead m o)) (read_ended_action (ahead c o))
-          (λ x. before all c o q.2 ∙ (ap (λ w. then_read (read_with_semicolon w) one_found) (sym q.1) ∙ ap (λ r. then_read r one_found) x))
+          (λ x. before c o q.2 ∙ (ap (λ w. then_read (read_with_semicolon w) one_found) (sym q.1) ∙ ap (λ r. then_read r one_found) x))
           (stopped (λ x. x) e (read_with_semicolon (ahead m o)) (ahead n o) p.1)),
     )
 

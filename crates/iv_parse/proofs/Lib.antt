@@ -1,3 +1,4 @@
+pub mod Readers
 pub mod TriggerSound
 pub mod Actions
 pub mod TriggerComplete

@@ -11,7 +11,7 @@ use Rattle.iv_parse_data.specs.readers.Tables.{read_elements, read_table_constra
 use Rattle.iv_parse_data.specs.Data.{IsInsert, IsUpdate, IsDelete, IsSelect}
 use Rattle.iv_parse_data.specs.readers.Data.{then_word, read_insert, read_update, read_delete, read_select}
 use Rattle.iv_parse.specs.Statements.{Reads}
-use Rattle.iv_parse.specs.readers.Statements.{read_drop, read_insert_rule, read_update_rule, read_delete_rule, read_select_rule, read_create, read_definition_rule, read_rule, read_statement}
+use Rattle.iv_parse.specs.readers.Statements.{read_definition_rule, read_rule, read_statement}
 use Rattle.iv_parse.specs.Script.{BeginsStatement}
 use Rattle.iv_parse_data.proofs.Fronts.{Good, nothing_good, done_good, after_good, name_good, then_good, made_good}
 use Rattle.iv_parse_data.proofs.DataSound.{insert_good, update_good, delete_good, select_good}
@@ -24,29 +24,26 @@ use Rattle.iv_parse.proofs.TriggerSound.{trigger_good}
 use Rattle.iv_parse.proofs.TriggerComplete.{trigger_reads}
 use Rattle.iv_parse.proofs.SessionSound.{drop_good, session_good}
 use Rattle.iv_parse.proofs.SessionComplete.{start_complete, commit_complete, rollback_complete, to_complete, savepoint_complete, release_complete, set_complete}
+use Rattle.iv_parse.proofs.Readers.{read_create, read_drop, read_insert_rule, read_update_rule, read_delete_rule, read_select_rule}
 
 insert_rule_good : (ws : List Word) → Good (λ back s. Reads (plain kind.Insert ∷ back) s) ws (read_insert_rule ws)
-unfolding read_insert_rule
 insert_rule_good ws =
     made_good (λ back i. IsInsert (plain kind.Insert ∷ back) i) _ ws (read_insert ws) statement.Insert (insert_good ws) (λ i front p. p)
 
 update_rule_good : (ws : List Word) → Good (λ back s. Reads (plain kind.Update ∷ back) s) ws (read_update_rule ws)
-unfolding read_update_rule
 update_rule_good ws =
     made_good (λ back u. IsUpdate (plain kind.Update ∷ back) u) _ ws (read_update ws) statement.Update (update_good ws) (λ u front p. p)
 
 delete_rule_good : (ws : List Word) → Good (λ back s. Reads (plain kind.Delete ∷ back) s) ws (read_delete_rule ws)
-unfolding read_delete_rule
 delete_rule_good ws =
     made_good (λ back d. IsDelete (plain kind.Delete ∷ back) d) _ ws (read_delete ws) statement.Delete (delete_good ws) (λ d front p. p)
 
 select_rule_good : (ws : List Word) → Good (λ back s. Reads (plain kind.Select ∷ back) s) ws (read_select_rule ws)
-unfolding read_select_rule
 select_rule_good ws =
     made_good (λ back s. IsSelect (plain kind.Select ∷ back) s) _ ws (read_select ws) statement.Select (select_good ws) (λ s front p. p)
 
 create_good : (ws : List Word) → Good (λ back s. Reads (plain kind.Create ∷ back) s) ws (read_create ws)
-unfolding read_create read_create_table
+unfolding read_create_table
 create_good ws =
     after_good _ kind.Table ws read_create_table _
     (λ rest. name_good _ rest _
@@ -93,7 +90,7 @@ statement_good ws =
     (nothing_good _ rest))
 
 rule_reads : (s : Statement) (front rest : List Word) → Reads front s → read_rule (front ++ plain kind.Semicolon ∷ rest) ≡ Some (s, plain kind.Semicolon ∷ rest)
-unfolding read_rule read_definition_rule read_insert_rule read_update_rule read_delete_rule read_select_rule read_create read_create_table read_alter read_drop
+unfolding read_rule read_definition_rule read_create_table read_alter
 rule_reads (statement.CreateTable n es) front rest (body, p, w) =
     ap (λ z. read_rule (z ++ plain kind.Semicolon ∷ rest)) w
     ∙ ap (λ o. then_read o (λ es more. Some (statement.CreateTable n es, more))) (elements_complete.reads es body (plain kind.Semicolon ∷ rest) p tt)

@@ -79,26 +79,30 @@ split n ts = grind (arith, common_steps)
 
 -- ---- one statement more
 
-own : (all : List Word) (n : At) → Like all n (record { words = all; most = n.place })
-own all n = record { same = refl; within = omega arith }
+own : (all : List Word) (n : At) → n.words ≡ all → Like n (record { words = all; all = all; most = n.place })
+own all n e = record { own = e; same = refl; within = omega arith }
 
-found : (text : List ℕ) (tokens : List Token) (all : List Word) (place : ℕ) (s : Statement) (c n : At) → all ≡ words text tokens → c ≡ record { place = place; furthest = place }
-    → ReadsRule read_statement all c (Ok s) n → read_statement (words text (drop place tokens)) ≡ Some (s, words text (drop n.place tokens))
+-- the words stay
+kept : (all : List Word) (place : ℕ) (c n : At) (r : Result Statement Stop) → c ≡ record { words = all; place = place; furthest = place } → ReadsRule read_statement c r n → n.words ≡ all
+kept all place c n r f h = sym (h (record { words = n.words; all = n.words; most = n.place }) (own n.words n refl)).0.own ∙ ap (λ (x : At). x.words) f
+
+found : (text : List ℕ) (tokens : List Token) (all : List Word) (place : ℕ) (s : Statement) (c n : At) → all ≡ words text tokens → c ≡ record { words = all; place = place; furthest = place }
+    → ReadsRule read_statement c (Ok s) n → read_statement (words text (drop place tokens)) ≡ Some (s, words text (drop n.place tokens))
 found text tokens all place s c n e f h =
-    let p = (h (record { words = all; most = n.place }) (own all n)).1 in
+    let p = (h (record { words = all; all = all; most = n.place }) (own all n (kept all place c n (Ok s) f h))).1 in
     let at : drop c.place all ≡ words text (drop place tokens) = ap (λ (x : At). drop x.place all) f ∙ (ap (drop place) e ∙ drop_words text place tokens) in
     let to : drop n.place all ≡ words text (drop n.place tokens) = ap (drop n.place) e ∙ drop_words text n.place tokens in
     ap read_statement (sym at) ∙ (p ∙ ap (λ w. Some (s, w)) to)
 
-rises_to : (all : List Word) (place : ℕ) (s : Statement) (c n : At) → c ≡ record { place = place; furthest = place } → ReadsRule read_statement all c (Ok s) n → place ≤ n.place
+rises_to : (all : List Word) (place : ℕ) (s : Statement) (c n : At) → c ≡ record { words = all; place = place; furthest = place } → ReadsRule read_statement c (Ok s) n → place ≤ n.place
 rises_to all place s c n f h =
-    let p = (h (record { words = all; most = n.place }) (own all n)).0.within in
+    let p = (h (record { words = all; all = all; most = n.place }) (own all n (kept all place c n (Ok s) f h))).0.within in
     let e = ap (λ (x : At). x.place) f in
     omega (arith, p, e)
 
 -- a statement takes words
-pub fewer : (text : List ℕ) (tokens : List Token) (all : List Word) (place : ℕ) (s : Statement) (c n : At) → all ≡ words text tokens → c ≡ record { place = place; furthest = place }
-    → ReadsRule read_statement all c (Ok s) n → length tokens - n.place < length tokens - place
+pub fewer : (text : List ℕ) (tokens : List Token) (all : List Word) (place : ℕ) (s : Statement) (c n : At) → all ≡ words text tokens → c ≡ record { words = all; place = place; furthest = place }
+    → ReadsRule read_statement c (Ok s) n → length tokens - n.place < length tokens - place
 fewer text tokens all place s c n e f h =
     let fit = (statement_good (words text (drop place tokens))).holds s (words text (drop n.place tokens)) (found text tokens all place s c n e f h) in
     let (front, p, w) = fit.part in
@@ -113,7 +117,7 @@ fewer text tokens all place s c n e f h =
     omega (arith, a, b, g, k, l, m, x, y)
 
 pub run_more : (text : List ℕ) (tokens : List Token) (all : List Word) (place : ℕ) (ss more : List Statement) (s : Statement) (c n : At) (next : ℕ)
-    → all ≡ words text tokens → Run text tokens place ss → c ≡ record { place = place; furthest = place } → ReadsRule read_statement all c (Ok s) n → next ≡ n.place → more ≡ ss ++ s ∷ []
+    → all ≡ words text tokens → Run text tokens place ss → c ≡ record { words = all; place = place; furthest = place } → ReadsRule read_statement c (Ok s) n → next ≡ n.place → more ≡ ss ++ s ∷ []
     → Run text tokens next more
 run_more text tokens all place ss more s c n next e r f h at d =
     let left = drop place tokens in
@@ -172,10 +176,10 @@ nothing_by : (n : ℕ) (ws : List Word) → take (suc n) ws ≡ [] → ws ≡ []
 nothing_by n [] e = refl
 nothing_by n (w ∷ ws) e = absurd (cc)
 
-stops_here : (all : List Word) (c n : At) (e : Stop) (o : Other) → (e ≡ NoMemory → ⊥) → ReadsRule read_statement all c (Err e) n → Like all n o → read_statement (ahead c o) ≡ None
-stops_here all c n NoMatch o m h l = (h o l).1
-stops_here all c n TooDeep o m h l = (h o l).1
-stops_here all c n NoMemory o m h l = absurd (m refl)
+stops_here : (c n : At) (e : Stop) (o : Other) → (e ≡ NoMemory → ⊥) → ReadsRule read_statement c (Err e) n → Like n o → read_statement (ahead c o) ≡ None
+stops_here c n NoMatch o m h l = (h o l).1
+stops_here c n TooDeep o m h l = (h o l).1
+stops_here c n NoMemory o m h l = absurd (m refl)
 
 up : (m n : ℕ) → (m ≤ n) ⊎ (n < m) → (suc m ≤ suc n) ⊎ (suc n < suc m)
 up m n (inl h) = inl (omega (arith, h))
@@ -186,19 +190,19 @@ either zero n = inl (omega arith)
 either (suc m) zero = inr (omega arith)
 either (suc m) (suc n) = up m n (either m n)
 
-blocked_by : (all : List Word) (place : ℕ) (c n : At) (e : Stop) → (e ≡ NoMemory → ⊥) → c ≡ record { place = place; furthest = place } → ReadsRule read_statement all c (Err e) n
+blocked_by : (all : List Word) (place : ℕ) (c n : At) (e : Stop) → (e ≡ NoMemory → ⊥) → c ≡ record { words = all; place = place; furthest = place } → ReadsRule read_statement c (Err e) n
     → (ws : List Word) → take (suc (max n.furthest place - place)) ws ≡ take (suc (max n.furthest place - place)) (drop place all)
     → (place ≤ length all) ⊎ (length all < place) → ¬ (BeginsStatement ws)
 blocked_by all place c n e m f h ws alike (inl within) =
     let front = take_less (suc n.furthest - place) (suc (max n.furthest place - place)) ws (drop place all) (omega arith) alike in
-    let o : Other = record { words = take place all ++ ws; most = n.place } in
-    let none = stops_here all c n e o m h (record { same = take_same (suc n.furthest) place all ws within front; within = omega arith }) in
+    let o : Other = record { words = take place all ++ ws; all = all; most = n.place } in
+    let none = stops_here c n e o m h (record { own = kept all place c n (Err e) f h; same = take_same (suc n.furthest) place all ws within front; within = omega arith }) in
     let at : drop c.place (take place all ++ ws) ≡ ws = ap (λ (x : At). drop x.place (take place all ++ ws)) f ∙ drop_after place all ws within in
     none_begins ws (ap read_statement (sym at) ∙ none)
 blocked_by all place c n e m f h ws alike (inr past) =
     let nothing = past_end place all past in
     let w : ws ≡ [] = nothing_by (max n.furthest place - place) ws (alike ∙ ap (λ z. take (suc (max n.furthest place - place)) z) nothing) in
-    let none = stops_here all c n e (record { words = all; most = n.place }) m h (own all n) in
+    let none = stops_here c n e (record { words = all; all = all; most = n.place }) m h (own all n (kept all place c n (Err e) f h)) in
     let at : drop c.place all ≡ [] = ap (λ (x : At). drop x.place all) f ∙ nothing in
     none_begins ws (ap read_statement (w ∙ sym at) ∙ none)
 
@@ -215,7 +219,7 @@ too_deep q = false≢true (ap refused q)
 
 -- the run ends where no statement begins
 pub run_ends : (text : List ℕ) (tokens : List Token) (all : List Word) (place end word : ℕ) (ss : List Statement) (c n : At) (e : Stop) → all ≡ words text tokens → Run text tokens place ss
-    → (e ≡ NoMemory → ⊥) → c ≡ record { place = place; furthest = place } → ReadsRule read_statement all c (Err e) n → end ≡ place → word ≡ max n.furthest place → IsEnd text tokens ss end word
+    → (e ≡ NoMemory → ⊥) → c ≡ record { words = all; place = place; furthest = place } → ReadsRule read_statement c (Err e) n → end ≡ place → word ≡ max n.furthest place → IsEnd text tokens ss end word
 run_ends text tokens all place end word ss c n e a r m f h p w =
     subst (λ x. IsEnd text tokens ss x word) (sym p) (subst (λ x. IsEnd text tokens ss place x) (sym w) (record {
       run = r.run;

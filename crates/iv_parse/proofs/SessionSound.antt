@@ -10,29 +10,26 @@ use Rattle.iv_parse_data.specs.Data.{Names}
 use Rattle.iv_parse_data.specs.readers.Data.{read_name}
 use Rattle.iv_parse_data.specs.readers.Tables.{read_mode}
 use Rattle.iv_parse.specs.Statements.{IsConstraintList, Reads}
-use Rattle.iv_parse.specs.readers.Statements.{read_drop, read_start, read_commit, read_to, read_rollback_rest, read_rollback, read_savepoint, read_release, read_list, read_set, read_savepoint_rule, read_session_rule}
+use Rattle.iv_parse.specs.readers.Statements.{read_rollback, read_list, read_set, read_session_rule}
 use Rattle.iv_parse_data.proofs.DataSound.{names_good}
 use Rattle.iv_parse_data.proofs.TableSound.{IsMode, mode_good}
 use Rattle.iv_parse_data.proofs.Fronts.{Good, nothing_good, done_good, after_good, name_good, then_good, skip_good}
+use Rattle.iv_parse.proofs.Readers.{read_drop, read_start, read_commit, read_to, read_rollback_rest, read_savepoint, read_release, read_savepoint_rule}
 
 pub drop_good : (ws : List Word) → Good (λ back s. Reads (plain kind.Drop ∷ back) s) ws (read_drop ws)
-unfolding read_drop
 drop_good ws =
     after_good _ kind.Trigger ws _ None
     (λ rest. name_good _ rest _ (λ n more. done_good _ more (DropTrigger n) refl))
     (nothing_good _ ws)
 
 pub start_good : (ws : List Word) → Good (λ back s. Reads (plain kind.Start ∷ back) s) ws (read_start ws)
-unfolding read_start
 start_good ws = after_good _ kind.Transaction ws _ None (λ rest. done_good _ rest StartTransaction refl) (nothing_good _ ws)
 
 pub commit_good : (ws : List Word) → Good (λ back s. Reads (plain kind.Commit ∷ back) s) ws (read_commit ws)
-unfolding read_commit
 commit_good ws =
     skip_good _ kind.Work ws (λ rest. Some (Commit, rest)) (λ work rest o. done_good _ rest Commit (work, o, ap (λ z. plain kind.Commit ∷ z) (append-nil work)))
 
 to_good : (work : List Word) → Optional kind.Work work → (ws : List Word) → Good (λ back s. Reads (plain kind.Rollback ∷ (work ++ plain kind.To ∷ back)) s) ws (read_to ws)
-unfolding read_to
 to_good work o ws =
     after_good _ kind.Savepoint ws _ None
     (λ rest. name_good _ rest _ (λ n more. done_good _ more (RollbackTo n) (work, o, refl)))
@@ -47,11 +44,9 @@ rollback_good ws =
     (done_good _ rest Rollback (work, o, ap (λ z. plain kind.Rollback ∷ z) (append-nil work))))
 
 pub savepoint_good : (ws : List Word) → Good (λ back s. Reads (plain kind.Savepoint ∷ back) s) ws (read_savepoint ws)
-unfolding read_savepoint
 savepoint_good ws = name_good _ ws _ (λ n rest. done_good _ rest (Savepoint n) refl)
 
 pub release_good : (ws : List Word) → Good (λ back s. Reads (plain kind.Release ∷ back) s) ws (read_release ws)
-unfolding read_release
 release_good ws =
     after_good _ kind.Savepoint ws _ None
     (λ rest. name_good _ rest _ (λ n more. done_good _ more (Release n) refl))
@@ -75,7 +70,6 @@ set_good ws =
     (nothing_good _ ws)
 
 savepoint_rule_good : (ws : List Word) → Good Reads ws (read_savepoint_rule ws)
-unfolding read_savepoint_rule
 savepoint_rule_good ws =
     after_good Reads kind.Savepoint ws read_savepoint _ savepoint_good
     (after_good Reads kind.Release ws read_release _ release_good

@@ -14,15 +14,16 @@ use Rattle.iv_syntax.specs.declared.statement.Insert.TheVariants as insert
 use Rattle.iv_syntax.specs.declared.statement.Insert.{Insert}
 use Rattle.iv_parse_terms.specs.After.{after, if_some, then_read, same}
 use Rattle.iv_parse_data.specs.Series.{Maybe, Optional}
-use Rattle.iv_parse_data.specs.readers.Series.{read_sequence, skip}
+use Rattle.iv_parse_data.specs.readers.Series.{read_all, read_sequence, skip}
 use Rattle.iv_parse_data.specs.Data.{IsInsert}
 use Rattle.iv_parse_data.specs.readers.Data.{then_word, read_name, read_check}
 use Rattle.iv_parse_data.specs.readers.Items.{read_transition, read_referencing_item_of, read_referencing_item}
 use Rattle.iv_parse.specs.Triggers.{side_kind, IsTransition, IsItem, IsReferencing, IsGranularity, IsWhen, IsAction, IsEndedAction, IsBody, time_kind, IsUpdateColumns, IsEvent, IsTrigger}
-use Rattle.iv_parse.specs.readers.Triggers.{read_middle, trigger_of, some_items, read_referencing, read_each, read_granularity, read_when, read_set_variable, read_signal, read_other_action, read_delete_action, read_action, read_with_semicolon, read_ended_action, some_actions, read_block, read_single, read_body, read_action_time, read_update_columns, read_update_event, read_other_event, read_event, read_occasion, read_trigger_rest, read_trigger}
+use Rattle.iv_parse.specs.readers.Triggers.{read_middle, trigger_of, some_items, read_referencing, read_granularity, read_when, read_set_action, read_action, read_with_semicolon, read_ended_action, some_actions, read_body, read_action_time, read_update_columns, read_event, read_occasion, read_trigger}
 use Rattle.iv_parse_data.proofs.Complete.{Anything}
 use Rattle.iv_parse_data.proofs.OptionalComplete.{maybe_after, Parts, sequence_complete}
 use Rattle.iv_parse_data.proofs.DataComplete.{EndsStatement, semicolon, names_complete, shallow_complete, check_complete, insert_reads, update_reads, delete_reads, other_word, statement_expression}
+use Rattle.iv_parse.proofs.Readers.{read_each, read_signal, read_other_action, read_delete_action, read_block, read_single, read_update_event, read_other_event, read_trigger_rest}
 
 abbrev named : Side → TransitionName → List ℕ → List Word → Option (Option Referencing × List Word)
 named s w n more = Some (Some (record { side = s; what = w; name = n }), more)
@@ -75,7 +76,7 @@ no_item ws h i =
 
 referencing_reads : (rs : List Referencing) (front rest : List Word) → IsReferencing front rs → after kind.Referencing rest ≡ None → after kind.Old rest ≡ None → after kind.New rest ≡ None
     → read_referencing (front ++ rest) ≡ Some (rs, rest)
-unfolding read_referencing
+unfolding read_referencing read_all
 referencing_reads [] front rest p e h i =
     ap (λ z. read_referencing (z ++ rest)) p
     ∙ ap (λ o. if_some o (λ more. then_read (read_sequence read_referencing_item (length more) more) some_items) (Some ([], rest))) e
@@ -84,7 +85,7 @@ referencing_reads (r ∷ rs) front rest (items, p, w) e h i =
     ∙ ap (λ o. then_read o some_items) (sequence_complete IsItem Anything read_referencing_item item_parts (r ∷ rs) items rest p tt (no_item rest h i))
 
 granularity_reads : (g : Granularity) (front rest : List Word) → IsGranularity front g → after kind.For rest ≡ None → read_granularity (front ++ rest) ≡ Some (g, rest)
-unfolding read_granularity read_each
+unfolding read_granularity
 granularity_reads granularity.Row front rest p e = ap (λ z. read_granularity (z ++ rest)) p
 granularity_reads granularity.Statement front rest (inl p) e =
     ap (λ z. read_granularity (z ++ rest)) p ∙ ap (λ o. if_some o (λ more. then_word kind.Each more read_each) (Some (granularity.Statement, rest))) e
@@ -98,7 +99,7 @@ when_reads (Some c) front rest (check, p, w) e =
     ap (λ z. read_when (z ++ rest)) w ∙ ap (λ o. then_read o (λ c left. Some (Some c, left))) (check_complete.reads c check rest p tt)
 
 action_reads : (a : TriggerAction) (front rest : List Word) → IsAction front a → EndsStatement rest → read_action (front ++ rest) ≡ Some (a, rest)
-unfolding read_action read_delete_action read_other_action read_signal read_set_variable
+unfolding read_action read_set_action
 action_reads (action.Insert i) front rest p e =
     let (back, w, h) = insert_reads i front rest p e in ap read_action w ∙ ap (λ o. then_read o (λ i more. Some (action.Insert i, more))) h
 action_reads (action.Update u) front rest p e =
@@ -176,13 +177,13 @@ action_begins_body (action.Signal t) front rest p = ap (λ z. after kind.Begin (
 action_begins_body (action.Set r c x) front rest (value, p, w) = ap (λ z. after kind.Begin (z ++ rest)) w
 
 single_reads : (a : TriggerAction) (front rest : List Word) → IsAction front a → EndsStatement rest → read_body (front ++ rest) ≡ Some (a ∷ [], rest)
-unfolding read_body read_single
+unfolding read_body
 single_reads a front rest p e =
     ap (λ o. if_some o read_block (read_single (front ++ rest))) (action_begins_body a front rest p)
     ∙ ap (λ o. then_read o (λ a more. Some (a ∷ [], more))) (action_reads a front rest p e)
 
 body_reads : (xs : List TriggerAction) (front rest : List Word) → IsBody front xs → EndsStatement rest → read_body (front ++ rest) ≡ Some (xs, rest)
-unfolding read_body read_block
+unfolding read_body read_all
 body_reads [] front rest (inl p) e = absurd p
 body_reads (a ∷ []) front rest (inl p) e = single_reads a front rest p e
 body_reads (a ∷ b ∷ xs) front rest (inl p) e = absurd p
@@ -204,7 +205,7 @@ update_columns_reads (n ∷ ns) front rest (names, p, w) =
     ap (λ z. read_update_columns (z ++ plain kind.On ∷ rest)) w ∙ names_complete.reads (n ∷ ns) names (plain kind.On ∷ rest) p (tt, refl)
 
 event_reads : (e : TriggerEvent) (ns : List (List ℕ)) (front rest : List Word) → IsEvent front e ns → read_event (front ++ plain kind.On ∷ rest) ≡ Some ((e, ns), plain kind.On ∷ rest)
-unfolding read_event read_other_event read_update_event
+unfolding read_event
 event_reads event.Insert ns front rest (p, w) =
     ap (λ z. read_event (z ++ plain kind.On ∷ rest)) w ∙ ap (λ xs. Some ((event.Insert, xs), plain kind.On ∷ rest)) (sym p)
 event_reads event.Update ns front rest (columns, p, w) =
@@ -244,7 +245,6 @@ middle_reads t items each when body rest p q r s =
 
 rest_reads : (t : TriggerDefinition) (items each when body rest : List Word) → IsReferencing items t.referencing → IsGranularity each t.granularity → Maybe IsWhen when t.when → IsBody body t.body → EndsStatement rest
     → read_trigger_rest t.name (t.time, t.event, t.columns) t.table (items ++ (each ++ (when ++ (body ++ rest)))) ≡ Some (t, rest)
-unfolding read_trigger_rest
 rest_reads t items each when body rest p q r s e =
     ap (λ o. then_read o (λ m a. then_read (read_body a) (λ x left. Some (trigger_of t.name (t.time, t.event, t.columns) t.table m x, left)))) (middle_reads t items each when body rest p q r s)
     ∙ ap (λ o. then_read o (λ x left. Some (trigger_of t.name (t.time, t.event, t.columns) t.table (t.referencing, t.granularity, t.when) x, left))) (body_reads t.body body rest s e)

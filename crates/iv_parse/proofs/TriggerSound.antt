@@ -11,16 +11,17 @@ use Rattle.iv_parse.specs.Types.transition
 use Rattle.iv_parse.specs.Types.action
 use Rattle.iv_parse_terms.specs.After.{after, if_some, then_read}
 use Rattle.iv_parse_data.specs.Series.{Sequence, Maybe, InParentheses, Optional}
-use Rattle.iv_parse_data.specs.readers.Series.{read_series, read_sequence}
+use Rattle.iv_parse_data.specs.readers.Series.{read_all, read_series, read_sequence}
 use Rattle.iv_parse_data.specs.Data.{Names, IsShallow, IsShallowCondition, IsInsert, IsUpdate, IsDelete}
 use Rattle.iv_parse_data.specs.readers.Data.{read_name, read_shallow, read_check, read_insert, read_update, read_delete}
-use Rattle.iv_parse_data.specs.readers.Tables.{read_quoted}
 use Rattle.iv_parse_data.specs.readers.Items.{read_transition, read_referencing_item_of, read_referencing_item}
 use Rattle.iv_parse.specs.Triggers.{side_kind, IsTransition, IsItem, IsReferencing, IsGranularity, IsWhen, IsAction, IsEndedAction, IsBody, time_kind, IsUpdateColumns, IsEvent, IsTrigger}
-use Rattle.iv_parse.specs.readers.Triggers.{read_middle, trigger_of, some_items, read_referencing, read_each, read_granularity, read_when, read_set_variable, read_signal, read_other_action, read_delete_action, read_action, read_with_semicolon, read_ended_action, some_actions, read_block, read_single, read_body, read_action_time, read_update_columns, read_update_event, read_other_event, read_event, read_occasion, read_trigger_rest, read_trigger}
+use Rattle.iv_parse.specs.readers.Triggers.{read_middle, trigger_of, some_items, read_referencing, read_granularity, read_when, read_set_action, read_action, read_with_semicolon, read_ended_action, some_actions, read_body, read_action_time, read_update_columns, read_event, read_occasion, read_trigger}
 use Rattle.iv_parse_data.proofs.Fronts.{Good, nothing_good, done_good, after_good, name_good, then_good, made_good, skip_good}
 use Rattle.iv_parse_data.proofs.OptionalSound.{IsQuoted, quoted_good, sequence_good}
 use Rattle.iv_parse_data.proofs.DataSound.{names_good, shallow_good, check_good, insert_good, update_good, delete_good}
+use Rattle.iv_parse_data.proofs.Readers.{read_quoted}
+use Rattle.iv_parse.proofs.Readers.{read_each, read_signal, read_other_action, read_delete_action, read_block, read_single, read_update_event, read_other_event, read_trigger_rest}
 
 transition_good : (ws : List Word) → Good IsTransition ws (read_transition ws)
 unfolding read_transition
@@ -47,7 +48,7 @@ some_items_good front ws [] p = nothing_good _ ws
 some_items_good front ws (r ∷ rs) p = done_good _ ws (r ∷ rs) (front, p, ap (λ z. plain kind.Referencing ∷ z) (append-nil front))
 
 referencing_good : (ws : List Word) → Good IsReferencing ws (read_referencing ws)
-unfolding read_referencing
+unfolding read_referencing read_all
 referencing_good ws =
     after_good IsReferencing kind.Referencing ws _ _
     (λ rest. then_good (Sequence IsItem) _ rest (read_sequence read_referencing_item (length rest) rest) some_items (sequence_good IsItem read_referencing_item item_good (length rest) rest)
@@ -55,7 +56,7 @@ referencing_good ws =
     (done_good IsReferencing ws [] refl)
 
 granularity_good : (ws : List Word) → Good IsGranularity ws (read_granularity ws)
-unfolding read_granularity read_each
+unfolding read_granularity
 granularity_good ws =
     after_good IsGranularity kind.For ws _ _
     (λ rest. after_good _ kind.Each rest read_each None
@@ -71,8 +72,8 @@ when_good ws =
     (λ rest. made_good (InParentheses IsShallowCondition) _ rest (read_check rest) Some (check_good rest) (λ c front p. (front, p, refl)))
     (done_good (Maybe IsWhen) ws None refl)
 
-set_variable_good : (ws : List Word) → Good (λ back a. IsAction (plain kind.Set ∷ back) a) ws (read_set_variable ws)
-unfolding read_set_variable
+set_variable_good : (ws : List Word) → Good (λ back a. IsAction (plain kind.Set ∷ back) a) ws (read_set_action ws)
+unfolding read_set_action
 set_variable_good ws =
     name_good _ ws _
     (λ r a. after_good _ kind.Period a _ None
@@ -83,11 +84,10 @@ set_variable_good ws =
     (nothing_good _ a))
 
 signal_good : (ws : List Word) → Good (λ back a. IsAction (plain kind.Signal ∷ back) a) ws (read_signal ws)
-unfolding read_signal
 signal_good ws = made_good IsQuoted _ ws (read_quoted ws) action.Signal (quoted_good ws) (λ t front p. ap (λ z. plain kind.Signal ∷ z) p)
 
 action_good : (ws : List Word) → Good IsAction ws (read_action ws)
-unfolding read_action read_delete_action read_other_action
+unfolding read_action
 action_good ws =
     after_good IsAction kind.Insert ws _ _
     (λ rest. made_good (λ back i. IsInsert (plain kind.Insert ∷ back) i) _ rest (read_insert rest) action.Insert (insert_good rest) (λ i front p. p))
@@ -96,7 +96,7 @@ action_good ws =
     (after_good IsAction kind.Delete ws _ _
     (λ rest. made_good (λ back d. IsDelete (plain kind.Delete ∷ back) d) _ rest (read_delete rest) action.Delete (delete_good rest) (λ d front p. p))
     (after_good IsAction kind.Signal ws read_signal _ signal_good
-    (after_good IsAction kind.Set ws read_set_variable None set_variable_good (nothing_good IsAction ws)))))
+    (after_good IsAction kind.Set ws read_set_action None set_variable_good (nothing_good IsAction ws)))))
 
 with_semicolon_good : (ws : List Word) → Good IsEndedAction ws (read_with_semicolon ws)
 unfolding read_with_semicolon
@@ -119,7 +119,7 @@ some_actions_good front ws [] p = nothing_good _ ws
 some_actions_good front ws (x ∷ xs) p = after_good _ kind.End ws _ None (λ rest. done_good _ rest (x ∷ xs) (inr (front, p, refl))) (nothing_good _ ws)
 
 block_good : (ws : List Word) → Good (λ back xs. IsBody (plain kind.Begin ∷ back) xs) ws (read_block ws)
-unfolding read_block
+unfolding read_all
 block_good ws =
     after_good _ kind.Atomic ws _ None
     (λ rest. then_good (Sequence IsEndedAction) _ rest (read_sequence read_ended_action (length rest) rest) some_actions (sequence_good IsEndedAction read_ended_action ended_action_good (length rest) rest)
@@ -127,7 +127,7 @@ block_good ws =
     (nothing_good _ ws)
 
 body_good : (ws : List Word) → Good IsBody ws (read_body ws)
-unfolding read_body read_single
+unfolding read_body
 body_good ws =
     after_good IsBody kind.Begin ws read_block _ block_good
     (made_good IsAction IsBody ws (read_action ws) (λ a. a ∷ []) (action_good ws) (λ a front p. inl p))
@@ -165,7 +165,7 @@ unfolding read_update_columns
 update_columns_good ws = after_good IsUpdateColumns kind.Of ws (read_series read_name) _ listed_columns_good (done_good IsUpdateColumns ws [] refl)
 
 event_good : (ws : List Word) → Good IsEventOf ws (read_event ws)
-unfolding read_event read_other_event read_update_event
+unfolding read_event
 event_good ws =
     after_good IsEventOf kind.Insert ws _ _ (λ rest. done_good _ rest (event.Insert, []) (refl, refl))
     (after_good IsEventOf kind.Update ws read_update_event _
@@ -195,7 +195,6 @@ middle_good ws =
 
 trigger_rest_good : (n : List ℕ) (o : ActionTime × TriggerEvent × List (List ℕ)) (happens : List Word) (table : List ℕ) (ws : List Word) → IsEvent happens o.1 o.2
     → Good (λ back x. IsTrigger (plain kind.Create ∷ plain kind.Trigger ∷ name n ∷ plain (time_kind o.0) ∷ ((happens ++ plain kind.On ∷ []) ++ name table ∷ back)) x) ws (read_trigger_rest n o table ws)
-unfolding read_trigger_rest
 trigger_rest_good n o happens table ws h =
     then_good IsMiddle _ ws (read_middle ws) _ (middle_good ws)
     (λ m front a (items, each, when, p, q, r, w). made_good IsBody _ a (read_body a) (trigger_of n o table m) (body_good a)

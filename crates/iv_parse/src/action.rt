@@ -1,157 +1,77 @@
 //! The actions of a trigger.
 ghost use Rattle.iv_parse_terms.specs.Reading.{Reads};
 ghost use Rattle.iv_parse_data.specs.readers.Series.{read_all};
-ghost use Rattle.iv_parse.specs.readers.Triggers.{read_set_value, read_set_column, read_set_variable, read_signal, read_set_action, read_other_action, read_delete_rule, read_update_rule, read_insert_rule, read_delete_action, read_action, read_ended_action, read_with_semicolon, some_actions, read_block, read_single, read_body};
+ghost use Rattle.iv_parse.specs.readers.Triggers.{read_set_action, read_action, read_with_semicolon, read_ended_action, some_actions, read_body};
 
 use iv_lex::TokenKind;
-use iv_parse_data::{Parse, delete, insert, quoted, update};
-use iv_parse_terms::{Cursor, Source, Stop};
-use iv_syntax::{Expression, Name, TriggerAction};
+use iv_parse_data::{Parse, delete, insert, update};
+use iv_parse_terms::{Cursor, Stop};
+use iv_syntax::{Expression, TriggerAction};
 use sqlite_items::Items;
 
-// SET of a row variable's column, from the equals sign on.
-fn set_value(
-    source: &Source<'_>,
-    cursor: &mut Cursor,
-    variable: Name,
-    column: Name,
-) -> Result<TriggerAction, Stop>
-    ensures { Reads (read_set_value variable column) source.now cursor.old result cursor.new }
-{
-    if cursor.accept(source, TokenKind::Equals) {
-        let value = Expression::parse(source, cursor)?;
-        return Ok(TriggerAction::Set(variable, column, value));
-    }
-    Err(Stop::NoMatch)
-}
-
-// SET of a row variable's column, from the period on.
-fn set_column(
-    source: &Source<'_>,
-    cursor: &mut Cursor,
-    variable: Name,
-) -> Result<TriggerAction, Stop>
-    ensures { Reads (read_set_column variable) source.now cursor.old result cursor.new }
-{
-    if cursor.accept(source, TokenKind::Period) {
-        let column = cursor.name(source)?;
-        return set_value(source, cursor, variable, column);
-    }
-    Err(Stop::NoMatch)
-}
-
 // SET of a row variable's column, from the variable on.
-#[tactic(auto, unfolding(crate::specs::readers::Triggers::read_set_variable))]
-fn set_variable(source: &Source<'_>, cursor: &mut Cursor) -> Result<TriggerAction, Stop>
-    ensures { Reads read_set_variable source.now cursor.old result cursor.new }
+#[tactic(auto, unfolding(crate::specs::readers::Triggers::read_set_action))]
+fn set_action(cursor: &mut Cursor<'_>) -> Result<TriggerAction, Stop>
+    ensures { Reads read_set_action cursor.old result cursor.new }
 {
-    let variable = cursor.name(source)?;
-    set_column(source, cursor, variable)
+    let variable = cursor.name()?;
+    cursor.expect(TokenKind::Period)?;
+    let column = cursor.name()?;
+    cursor.expect(TokenKind::Equals)?;
+    let value = Expression::parse(cursor)?;
+    Ok(TriggerAction::Set(variable, column, value))
 }
 
-#[tactic(auto, unfolding(crate::specs::readers::Triggers::read_signal))]
-fn signal(source: &Source<'_>, cursor: &mut Cursor) -> Result<TriggerAction, Stop>
-    ensures { Reads read_signal source.now cursor.old result cursor.new }
+fn action(cursor: &mut Cursor<'_>) -> Result<TriggerAction, Stop>
+    ensures { Reads read_action cursor.old result cursor.new }
 {
-    let message = quoted(source, cursor)?;
-    Ok(TriggerAction::Signal(message))
-}
-
-fn set_action(source: &Source<'_>, cursor: &mut Cursor) -> Result<TriggerAction, Stop>
-    ensures { Reads read_set_action source.now cursor.old result cursor.new }
-{
-    if cursor.accept(source, TokenKind::Set) {
-        return set_variable(source, cursor);
+    if cursor.accept(TokenKind::Insert) {
+        let insert = insert(cursor)?;
+        return Ok(TriggerAction::Insert(insert));
     }
-    Err(Stop::NoMatch)
-}
-
-// An action that is none of the data statements.
-#[tactic(auto, unfolding(crate::specs::readers::Triggers::read_other_action))]
-fn other_action(source: &Source<'_>, cursor: &mut Cursor) -> Result<TriggerAction, Stop>
-    ensures { Reads read_other_action source.now cursor.old result cursor.new }
-{
-    if cursor.accept(source, TokenKind::Signal) {
-        return signal(source, cursor);
+    if cursor.accept(TokenKind::Update) {
+        let update = update(cursor)?;
+        return Ok(TriggerAction::Update(update));
     }
-    set_action(source, cursor)
-}
-
-fn delete_rule(source: &Source<'_>, cursor: &mut Cursor) -> Result<TriggerAction, Stop>
-    ensures { Reads read_delete_rule source.now cursor.old result cursor.new }
-{
-    let delete = delete(source, cursor)?;
-    Ok(TriggerAction::Delete(delete))
-}
-
-fn update_rule(source: &Source<'_>, cursor: &mut Cursor) -> Result<TriggerAction, Stop>
-    ensures { Reads read_update_rule source.now cursor.old result cursor.new }
-{
-    let update = update(source, cursor)?;
-    Ok(TriggerAction::Update(update))
-}
-
-fn insert_rule(source: &Source<'_>, cursor: &mut Cursor) -> Result<TriggerAction, Stop>
-    ensures { Reads read_insert_rule source.now cursor.old result cursor.new }
-{
-    let insert = insert(source, cursor)?;
-    Ok(TriggerAction::Insert(insert))
-}
-
-#[tactic(auto, unfolding(crate::specs::readers::Triggers::read_delete_action))]
-fn delete_action(source: &Source<'_>, cursor: &mut Cursor) -> Result<TriggerAction, Stop>
-    ensures { Reads read_delete_action source.now cursor.old result cursor.new }
-{
-    if cursor.accept(source, TokenKind::Delete) {
-        return delete_rule(source, cursor);
+    if cursor.accept(TokenKind::Delete) {
+        let delete = delete(cursor)?;
+        return Ok(TriggerAction::Delete(delete));
     }
-    other_action(source, cursor)
-}
-
-#[tactic(auto, unfolding(crate::specs::readers::Triggers::read_action))]
-fn action(source: &Source<'_>, cursor: &mut Cursor) -> Result<TriggerAction, Stop>
-    ensures { Reads read_action source.now cursor.old result cursor.new }
-{
-    if cursor.accept(source, TokenKind::Insert) {
-        return insert_rule(source, cursor);
+    if cursor.accept(TokenKind::Signal) {
+        let message = cursor.quoted()?;
+        return Ok(TriggerAction::Signal(message));
     }
-    if cursor.accept(source, TokenKind::Update) {
-        return update_rule(source, cursor);
-    }
-    delete_action(source, cursor)
+    cursor.expect(TokenKind::Set)?;
+    set_action(cursor)
 }
 
 #[tactic(auto, unfolding(crate::specs::readers::Triggers::read_with_semicolon))]
-fn with_semicolon(source: &Source<'_>, cursor: &mut Cursor) -> Result<TriggerAction, Stop>
-    ensures { Reads read_with_semicolon source.now cursor.old result cursor.new }
+fn with_semicolon(cursor: &mut Cursor<'_>) -> Result<TriggerAction, Stop>
+    ensures { Reads read_with_semicolon cursor.old result cursor.new }
 {
-    let action = action(source, cursor)?;
-    if cursor.accept(source, TokenKind::Semicolon) {
-        return Ok(action);
-    }
-    drop(action);
-    Err(Stop::NoMatch)
+    let action = action(cursor)?;
+    cursor.followed(action, TokenKind::Semicolon)
 }
 
 // An action with its semicolon; none where END is next.
-fn ended_action(source: &Source<'_>, cursor: &mut Cursor) -> Result<Option<TriggerAction>, Stop>
-    ensures { Reads read_ended_action source.now cursor.old result cursor.new }
+fn ended_action(cursor: &mut Cursor<'_>) -> Result<Option<TriggerAction>, Stop>
+    ensures { Reads read_ended_action cursor.old result cursor.new }
 {
-    if cursor.is_at(source, TokenKind::End) {
+    if cursor.is_at(TokenKind::End) {
         return Ok(None);
     }
-    let action = with_semicolon(source, cursor)?;
+    let action = with_semicolon(cursor)?;
     Ok(Some(action))
 }
 
 // Actions with their semicolons, up to END.
-fn actions(source: &Source<'_>, cursor: &mut Cursor) -> Result<Items<TriggerAction>, Stop>
-    ensures { Reads (read_all read_ended_action) source.now cursor.old result cursor.new }
+fn actions(cursor: &mut Cursor<'_>) -> Result<Items<TriggerAction>, Stop>
+    ensures { Reads (read_all read_ended_action) cursor.old result cursor.new }
 {
-    let mut items = Items::new(source.alloc());
+    let mut items = Items::new(cursor.alloc());
     loop {
         let place = cursor.place();
-        let Some(item) = ended_action(source, cursor)? else {
+        let Some(item) = ended_action(cursor)? else {
             cursor.go_back(place);
             return Ok(items);
         };
@@ -159,51 +79,31 @@ fn actions(source: &Source<'_>, cursor: &mut Cursor) -> Result<Items<TriggerActi
     }
 }
 
+// One action at least, and END.
 fn some_actions(
-    source: &Source<'_>,
-    cursor: &mut Cursor,
+    cursor: &mut Cursor<'_>,
     actions: Items<TriggerAction>,
 ) -> Result<Items<TriggerAction>, Stop>
-    ensures { Reads (some_actions actions) source.now cursor.old result cursor.new }
+    ensures { Reads (some_actions actions) cursor.old result cursor.new }
 {
     if actions.is_empty() {
         return Err(Stop::NoMatch);
     }
-    if cursor.accept(source, TokenKind::End) {
-        return Ok(actions);
-    }
-    Err(Stop::NoMatch)
-}
-
-// BEGIN ATOMIC, from ATOMIC on.
-#[tactic(auto, unfolding(crate::specs::readers::Triggers::read_block))]
-fn block(source: &Source<'_>, cursor: &mut Cursor) -> Result<Items<TriggerAction>, Stop>
-    ensures { Reads read_block source.now cursor.old result cursor.new }
-{
-    if cursor.accept(source, TokenKind::Atomic) {
-        let found = actions(source, cursor)?;
-        return some_actions(source, cursor, found);
-    }
-    Err(Stop::NoMatch)
-}
-
-#[tactic(auto, unfolding(crate::specs::readers::Triggers::read_single))]
-fn single(source: &Source<'_>, cursor: &mut Cursor) -> Result<Items<TriggerAction>, Stop>
-    ensures { Reads read_single source.now cursor.old result cursor.new }
-{
-    let action = action(source, cursor)?;
-    let mut actions = Items::new(source.alloc());
-    actions.push(action)?;
-    Ok(actions)
+    cursor.followed(actions, TokenKind::End)
 }
 
 /// The body of a trigger: an action, or BEGIN ATOMIC and actions.
 #[tactic(auto, unfolding(crate::specs::readers::Triggers::read_body))]
-pub fn body(source: &Source<'_>, cursor: &mut Cursor) -> Result<Items<TriggerAction>, Stop>
-    ensures { Reads read_body source.now cursor.old result cursor.new }
+pub fn body(cursor: &mut Cursor<'_>) -> Result<Items<TriggerAction>, Stop>
+    ensures { Reads read_body cursor.old result cursor.new }
 {
-    if cursor.accept(source, TokenKind::Begin) {
-        return block(source, cursor);
+    if cursor.accept(TokenKind::Begin) {
+        cursor.expect(TokenKind::Atomic)?;
+        let found = actions(cursor)?;
+        return some_actions(cursor, found);
     }
-    single(source, cursor)
+    let action = action(cursor)?;
+    let mut actions = Items::new(cursor.alloc());
+    actions.push(action)?;
+    Ok(actions)
 }

@@ -5,7 +5,7 @@ ghost use Rattle.iv_parse.specs.Script.{ends_there, first_place, token_before, I
 
 use crate::statement::statement;
 use iv_lex::{Token, tokens};
-use iv_parse_terms::{Cursor, Source, Stop, Wanted};
+use iv_parse_terms::{Cursor, Stop, Wanted};
 use iv_syntax::Statement;
 use sqlite_items::Items;
 use std::alloc::{AllocError, Global};
@@ -71,7 +71,7 @@ struct End {
     too_deep: bool,
 }
 
-fn end_of(place: usize, cursor: &Cursor, too_deep: bool) -> End
+fn end_of(place: usize, cursor: &Cursor<'_>, too_deep: bool) -> End
     ensures place { result.place ≡ place }
     ensures word { result.word ≡ max cursor.now.furthest place }
 {
@@ -87,12 +87,11 @@ fn end_of(place: usize, cursor: &Cursor, too_deep: bool) -> End
 fn run(alloc: Global, text: &str, tokens: &[Token]) -> Result<(Items<Statement>, End), AllocError>
     ensures { IfOk result (λ p. IsEnd text.now tokens.now p.0 p.1.place p.1.word) }
 {
-    let source = Source::new(alloc, text, tokens);
     let mut statements = Items::new(alloc);
     let mut place = 0;
     loop {
-        let mut cursor = Cursor::new(place);
-        match statement(&source, &mut cursor) {
+        let mut cursor = Cursor::new(alloc, text, tokens, place);
+        match statement(&mut cursor) {
             Ok(found) => {
                 statements.push(found)?;
                 place = cursor.place();

@@ -49,6 +49,7 @@ module _ {A : Type 0} where
   series_reads : (Part : List Word → A → Type 0) (Ends : List Word → Type 0) (part : List Word → Option (A × List Word)) → Reads_all Part Ends part
       → ((ws : List Word) → Ends (plain kind.Comma ∷ ws))
       → (bs : List A) (front rest : List Word) → Series Part front bs → Ends rest → after kind.Comma rest ≡ None → read_series part (front ++ rest) ≡ Some (bs, rest)
+  unfolding read_series
   series_reads Part Ends part all comma [] front rest p e last = absurd p
   series_reads Part Ends part all comma (b ∷ bs) front rest (f, g, p, m, w) e last =
       let one : part (f ++ (g ++ rest)) ≡ Some (b, g ++ rest) = all.reads b f (g ++ rest) p (more_ends Part Ends comma bs g rest m e) in
@@ -69,6 +70,7 @@ module _ {A : Type 0} where
   pub enclosed_complete : (Part : List Word → A → Type 0) (Ends : List Word → Type 0) (part : List Word → Option (A × List Word)) → Reads_all Part Ends part
       → ((ws : List Word) → Ends (plain kind.RightParenthesis ∷ ws))
       → Reads_all (InParentheses Part) Anything (read_enclosed part)
+  unfolding read_enclosed
   enclosed_complete Part Ends part all ends = record {
     reads = λ a front rest (inner, p, w) e.
         ap (λ z. read_enclosed part (z ++ rest)) w

@@ -19,10 +19,11 @@ use Rattle.iv_syntax.specs.declared.tree.Expression.TheVariants.{Number, Text, N
 use Rattle.iv_parse_terms.proofs.Theorems.{expression_complete, condition_complete, from_complete}
 use Rattle.iv_parse_terms.specs.Conditions.{EndsCondition, EndsFrom, IsFrom, RangeSpelled}
 use Rattle.iv_parse_data.specs.Series.{Series, Maybe, InParentheses}
-use Rattle.iv_parse_data.specs.readers.Series.{read_series, close, read_closed}
+use Rattle.iv_parse_data.specs.readers.Series.{read_optional, read_series, close, read_closed}
 use Rattle.iv_parse_data.specs.Data.{IsName, Names, IsShallow, IsShallowCondition, IsValue, IsTuple, IsColumnList, IsShallowFrom, IsSelectList, IsSource, IsInsert, IsAssignment, IsWhere, IsUpdate, IsDelete, IsSelect}
-use Rattle.iv_parse_data.specs.readers.Data.{then_word, read_name, read_shallow, read_shallow_condition, read_check, read_value, read_tuple, read_column_list, read_shallow_from, read_select_list, read_select_source, read_source, read_insert_rows, read_insert_into, read_insert, read_assignment, read_where, read_assignments, read_update, read_delete, read_count, read_query, read_select}
+use Rattle.iv_parse_data.specs.readers.Data.{then_word, read_name, read_shallow, read_shallow_condition, read_check, read_value, read_tuple, read_column_list, read_shallow_from, read_select_list, read_source, read_insert, read_assignment, read_where, read_update, read_delete, read_select}
 use Rattle.iv_parse_data.proofs.Complete.{Reads_all, Anything, series_complete, enclosed_complete}
+use Rattle.iv_parse_data.proofs.Readers.{read_select_source, read_insert_rows, read_insert_into, read_assignments, read_count, read_query}
 
 pub name_complete : Reads_all IsName Anything read_name
 name_complete = record { reads = λ n front rest p e. ap (λ z. read_name (z ++ rest)) p }
@@ -70,7 +71,6 @@ unfolding read_shallow_condition
 condition_reads = record { reads = λ c front rest p ends. condition_complete front rest c p.0 p.1 ends }
 
 pub check_complete : Reads_all (InParentheses IsShallowCondition) Anything read_check
-unfolding read_check
 check_complete = enclosed_complete IsShallowCondition EndsCondition read_shallow_condition condition_reads (λ ws. (((((refl, refl), refl, refl), refl), refl)))
 
 value_reads : (v : ValueOrDefault) (front rest : List Word) → IsValue front v → EndsExpression rest → read_value (front ++ rest) ≡ Some (v, rest)
@@ -91,7 +91,6 @@ close_ends : (ws : List Word) → EndsExpression (plain kind.RightParenthesis �
 close_ends ws = ((refl, refl), refl, refl)
 
 pub tuple_complete : Reads_all IsTuple Anything read_tuple
-unfolding read_tuple
 tuple_complete =
     enclosed_complete (Series IsValue) (λ rest. EndsExpression rest × (after kind.Comma rest ≡ None)) (read_series read_value)
     (series_complete IsValue EndsExpression read_value value_complete comma_ends) (λ ws. (close_ends ws, refl))
@@ -157,7 +156,7 @@ select_list_reads (select_list.Values es) front rest p e =
     ((series_complete IsShallow EndsExpression read_shallow shallow_complete comma_ends).reads es front rest p e)
 
 source_reads : (s : InsertSource) (front rest : List Word) → IsSource front s → EndsStatement rest → read_source (front ++ rest) ≡ Some (s, rest)
-unfolding read_source read_select_source
+unfolding read_source
 source_reads (source.Values ts) front rest (inner, p, w) e =
     ap (λ z. read_source (z ++ rest)) w
     ∙ ap (λ o. then_read o (λ ts more. Some (source.Values ts, more))) ((series_complete IsTuple Anything read_tuple tuple_complete (λ ws. tt)).reads ts inner rest p (tt, no_comma rest e))
@@ -178,7 +177,7 @@ rows_begin (Some ns) s columns rows rest (inner, p, w) q = ap (λ z. after kind.
 
 pub insert_reads : (i : Insert) (front rest : List Word) → IsInsert front i → EndsStatement rest
     → (back : List Word) × (front ++ rest ≡ plain kind.Insert ∷ back) × (read_insert back ≡ Some (i, rest))
-unfolding read_insert read_insert_into read_insert_rows
+unfolding read_insert
 insert_reads (DefaultValues t) front rest p e =
     (plain kind.Into ∷ name t ∷ plain kind.Default ∷ plain kind.Values ∷ rest, ap (λ z. z ++ rest) p, refl)
 insert_reads (Rows t cs s) front rest (columns, rows, p, q, w) e = (
@@ -197,7 +196,7 @@ assignment_complete = record {
 }
 
 where_reads : (c : Option Condition) (front rest : List Word) → Maybe IsWhere front c → EndsStatement rest → read_where (front ++ rest) ≡ Some (c, rest)
-unfolding read_where
+unfolding read_optional
 where_reads None front rest p e =
     ap (λ z. read_where (z ++ rest)) p
     ∙ ap (λ o. if_some o (λ more. then_read (read_shallow_condition more) (λ c left. Some (Some c, left))) (Some (None, rest))) ((statement_ends rest e).3)
@@ -212,7 +211,7 @@ where_ends (Some c) front rest (inner, p, w) e = subst (λ z. EndsExpression (z 
 
 pub update_reads : (u : Update) (front rest : List Word) → IsUpdate front u → EndsStatement rest
     → (back : List Word) × (front ++ rest ≡ plain kind.Update ∷ back) × (read_update back ≡ Some (u, rest))
-unfolding read_update read_assignments
+unfolding read_update
 update_reads u front rest (list, filter, p, q, w) e = (
   name u.table ∷ plain kind.Set ∷ (list ++ (filter ++ rest)),
   ap (λ z. z ++ rest) w ∙ ap (λ z. plain kind.Update ∷ name u.table ∷ plain kind.Set ∷ z) (append_assoc list filter rest),
@@ -236,7 +235,7 @@ list_begins (select_list.Values es) front rest p = values_begin kind.Count (reco
 
 pub select_reads : (s : Select) (front rest : List Word) → IsSelect front s → EndsStatement rest
     → (back : List Word) × (front ++ rest ≡ plain kind.Select ∷ back) × (read_select back ≡ Some (s, rest))
-unfolding read_select read_count read_query
+unfolding read_select
 select_reads (select.Count r c) front rest (from, q, w) e = (
   plain kind.Count ∷ plain kind.LeftParenthesis ∷ plain kind.Asterisk ∷ plain kind.RightParenthesis ∷ (from ++ rest),
   ap (λ z. z ++ rest) w,

@@ -9,10 +9,11 @@ use Rattle.iv_parse_data.specs.Types.select
 use Rattle.iv_parse_data.specs.Types.insert.{DefaultValues, Rows}
 use Rattle.iv_parse_terms.proofs.Theorems.{expression_front, condition_front, from_front}
 use Rattle.iv_parse_data.specs.Series.{Series, Maybe, InParentheses}
-use Rattle.iv_parse_data.specs.readers.Series.{read_series, read_closed}
+use Rattle.iv_parse_data.specs.readers.Series.{read_optional, read_series, read_closed}
 use Rattle.iv_parse_data.specs.Data.{IsName, Names, IsShallow, IsShallowCondition, IsValue, IsTuple, IsColumnList, IsShallowFrom, IsSelectList, IsSource, IsInsert, IsAssignment, IsWhere, IsUpdate, IsDelete, IsSelect}
-use Rattle.iv_parse_data.specs.readers.Data.{read_name, read_shallow, read_shallow_condition, read_check, read_value, read_tuple, read_column_list, read_shallow_from, read_select_list, read_select_source, read_source, read_insert_rows, read_insert_into, read_insert, read_assignment, read_where, read_assignments, read_update, read_delete, read_count, read_query, read_select}
+use Rattle.iv_parse_data.specs.readers.Data.{read_name, read_shallow, read_shallow_condition, read_check, read_value, read_tuple, read_column_list, read_shallow_from, read_select_list, read_source, read_insert, read_assignment, read_where, read_update, read_delete, read_select}
 use Rattle.iv_parse_data.proofs.Fronts.{Good, nothing_good, done_good, after_good, name_good, then_good, series_good, closed_good, enclosed_good, made_good, name_is}
+use Rattle.iv_parse_data.proofs.Readers.{read_select_source, read_insert_rows, read_insert_into, read_assignments, read_count, read_query}
 
 pub one_name_good : (ws : List Word) → Good IsName ws (read_name ws)
 one_name_good ws = record { holds = λ n rest h. record { front = name n ∷ []; part = refl; whole = name_is ws n rest h } }
@@ -33,7 +34,6 @@ condition_good ws = record {
 }
 
 pub check_good : (ws : List Word) → Good (InParentheses IsShallowCondition) ws (read_check ws)
-unfolding read_check
 check_good ws = enclosed_good IsShallowCondition read_shallow_condition condition_good ws
 
 pub value_good : (ws : List Word) → Good IsValue ws (read_value ws)
@@ -44,7 +44,6 @@ value_good ws =
     (made_good IsShallow IsValue ws (read_shallow ws) Value (shallow_good ws) (λ e front p. p))
 
 pub tuple_good : (ws : List Word) → Good IsTuple ws (read_tuple ws)
-unfolding read_tuple
 tuple_good ws = enclosed_good (Series IsValue) (read_series read_value) (λ vs. series_good IsValue read_value value_good vs) ws
 
 pub column_list_good : (ws : List Word) → Good IsColumnList ws (read_column_list ws)
@@ -68,7 +67,6 @@ select_list_good ws =
     (made_good (Series IsShallow) IsSelectList ws (read_series read_shallow ws) select_list.Values (series_good IsShallow read_shallow shallow_good ws) (λ es front p. p))
 
 select_source_good : (ws : List Word) → Good (λ back s. IsSource (plain kind.Select ∷ back) s) ws (read_select_source ws)
-unfolding read_select_source
 select_source_good ws =
     then_good IsSelectList _ ws (read_select_list ws) _ (select_list_good ws)
     (λ l list rest p. made_good IsShallowFrom _ rest (read_shallow_from rest) (λ p. source.Select l p.0 p.1) (from_good rest) (λ q from r. (list, from, p, r, refl)))
@@ -81,13 +79,11 @@ source_good ws =
     (after_good IsSource kind.Select ws read_select_source None select_source_good (nothing_good IsSource ws))
 
 insert_rows_good : (t : List ℕ) (ws : List Word) → Good (λ back i. IsInsert (plain kind.Insert ∷ plain kind.Into ∷ name t ∷ back) i) ws (read_insert_rows t ws)
-unfolding read_insert_rows
 insert_rows_good t ws =
     then_good IsColumnList _ ws (read_column_list ws) _ (column_list_good ws)
     (λ cs front rest p. made_good IsSource _ rest (read_source rest) (Rows t cs) (source_good rest) (λ s back q. (front, back, p, q, refl)))
 
 insert_into_good : (t : List ℕ) (ws : List Word) → Good (λ back i. IsInsert (plain kind.Insert ∷ plain kind.Into ∷ name t ∷ back) i) ws (read_insert_into t ws)
-unfolding read_insert_into
 insert_into_good t ws =
     after_good _ kind.Default ws _ _
     (λ rest. after_good _ kind.Values rest _ None (λ more. done_good _ more (DefaultValues t) refl) (nothing_good _ rest))
@@ -109,14 +105,14 @@ assignment_good ws =
     (nothing_good _ rest))
 
 where_good : (ws : List Word) → Good (Maybe IsWhere) ws (read_where ws)
-unfolding read_where
+unfolding read_optional
 where_good ws =
     after_good (Maybe IsWhere) kind.Where ws _ _
     (λ rest. made_good IsShallowCondition _ rest (read_shallow_condition rest) Some (condition_good rest) (λ c front p. (front, p, refl)))
     (done_good (Maybe IsWhere) ws None refl)
 
 pub update_good : (ws : List Word) → Good (λ back u. IsUpdate (plain kind.Update ∷ back) u) ws (read_update ws)
-unfolding read_update read_assignments
+unfolding read_update
 update_good ws =
     name_good _ ws _
     (λ t rest. after_good _ kind.Set rest (read_assignments t) None
@@ -133,7 +129,6 @@ delete_good ws =
     (nothing_good _ ws)
 
 count_good : (ws : List Word) → Good (λ back s. IsSelect (plain kind.Select ∷ plain kind.Count ∷ back) s) ws (read_count ws)
-unfolding read_count
 count_good ws =
     after_good _ kind.LeftParenthesis ws _ None
     (λ a. after_good _ kind.Asterisk a _ None
@@ -144,7 +139,6 @@ count_good ws =
     (nothing_good _ ws)
 
 query_good : (ws : List Word) → Good (λ back s. IsSelect (plain kind.Select ∷ back) s) ws (read_query ws)
-unfolding read_query
 query_good ws =
     then_good IsSelectList _ ws (read_select_list ws) _ (select_list_good ws)
     (λ l list rest p. made_good IsShallowFrom _ rest (read_shallow_from rest) (λ p. select.Rows l p.0 p.1) (from_good rest) (λ q from r. (list, from, p, r, refl)))

@@ -6,7 +6,7 @@ use Rattle.iv_lex.specs.declared.kind.TokenKind.{TokenKind}
 use Rattle.iv_lex.specs.declared.kind.TokenKind.TheVariants as kind
 use Rattle.iv_lex.specs.declared.token.Token.{Token}
 use Rattle.iv_lex.specs.Words.{Word, folded_text, unquoted_text, word_by, words}
-use Rattle.iv_parse_data.specs.readers.Tables.{read_number}
+use Rattle.iv_parse_data.proofs.Readers.{read_number}
 
 other_kind : (k : TokenKind) (of_name of_text : Option (List ℕ)) (ws : List Word) → ((n : ℕ) → k ≢ kind.Number n) → None ≡ read_number (word_by k of_name of_text ∷ ws)
 other_kind (kind.Number n) of_name of_text ws h = absurd (h n refl)

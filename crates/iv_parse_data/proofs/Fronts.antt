@@ -112,6 +112,7 @@ module _ {A : Type 0} where
   -- the parts of a series at the front
   pub series_good : (Part : List Word → A → Type 0) (part : List Word → Option (A × List Word)) → ((ws : List Word) → Good Part ws (part ws))
       → (ws : List Word) → Good (Series Part) ws (read_series part ws)
+  unfolding read_series
   series_good Part part g ws =
       then_good Part (Series Part) ws (part ws) _ (g ws)
       (λ a front rest p. then_good (More Part) (λ back bs. Series Part (front ++ back) bs) rest (read_more part (length rest) rest) (with_first a) (more_good Part part g (length rest) rest)
@@ -140,6 +141,7 @@ module _ {A : Type 0} where
 
   pub enclosed_good : (Part : List Word → A → Type 0) (part : List Word → Option (A × List Word)) → ((ws : List Word) → Good Part ws (part ws))
       → (ws : List Word) → Good (InParentheses Part) ws (read_enclosed part ws)
+  unfolding read_enclosed
   enclosed_good Part part g ws = after_good _ kind.LeftParenthesis ws (read_closed part) None (λ rest. closed_good Part part g rest) (nothing_good _ ws)
 
 module _ {A B : Type 0} where

@@ -1,3 +1,4 @@
+pub mod Readers
 pub mod Fronts
 pub mod FirstNumber
 pub mod Complete

@@ -25,23 +25,24 @@ left_less : (p q : ℕ) (ws : List Word) → p ≤ q → length (drop q ws) ≤ 
 left_less p q ws h = let e = length-drop p ws in let f = length-drop q ws in omega (arith, h, e, f)
 
 module _ {A : Type 0} where
-  pub rises : (rule : List Word → Option (A × List Word)) (all : List Word) (c n : At) (r : Result A Stop) → Reads rule all c r n → (o : Other) → Like all n o → c.place ≤ n.place
-  rises rule all c n r h o l =
-      let p = h (record { words = o.words; most = n.place }) (record { same = l.same; within = omega arith }) in
+  pub rises : (rule : List Word → Option (A × List Word)) (c n : At) (r : Result A Stop) → Reads rule c r n → (o : Other) → Like n o → c.place ≤ n.place
+  rises rule c n r h o l =
+      let p = h (record { words = o.words; all = o.all; most = n.place }) (record { own = l.own; same = l.same; within = omega arith }) in
       p.0.within
 
   -- a word and a part take words
-  pub fewer : (rule : List Word → Option (A × List Word)) (all : List Word) (c m n : At) (k : TokenKind) (r : Result A Stop) → Tries (after k) all c true m → Reads rule all m r n
-      → length all - n.place < length all - c.place
-  fewer rule all c m n k r a h =
-      let mine : Other = record { words = all; most = n.place } in
-      let own : Like all n mine = record { same = refl; within = omega arith } in
-      let up = rises rule all m n r h mine own in
+  pub fewer : (rule : List Word → Option (A × List Word)) (c m n : At) (k : TokenKind) (r : Result A Stop) → Tries (after k) c true m → Reads rule m r n
+      → length n.words - n.place < length c.words - c.place
+  fewer rule c m n k r a h =
+      let mine : Other = record { words = n.words; all = n.words; most = n.place } in
+      let own : Like n mine = record { own = refl; same = refl; within = omega arith } in
+      let up = rises rule m n r h mine own in
       let q = a mine (h mine own).0 in
-      let s = after_shorter k (drop c.place all) (drop m.place all) q.1 in
-      let e = length-drop c.place all in
-      let f = length-drop m.place all in
-      omega (arith, up, s, e, f)
+      let s = after_shorter k (drop c.place n.words) (drop m.place n.words) q.1 in
+      let e = length-drop c.place n.words in
+      let f = length-drop m.place n.words in
+      let g = ap length q.0.own in
+      omega (arith, up, s, e, f, g)
 
   -- these parts before those that were found
   abbrev pub preceded : List A → Option (List A × List Word) → Option (List A × List Word)
@@ -54,9 +55,9 @@ module _ {A : Type 0} where
     pub enough : length ws ≤ most
     pub is : preceded items (read_more part most ws) ≡ whole
 
-  -- so it is in all words that are like these
-  abbrev pub Along : (List Word → Option (A × List Word)) → List Word → At → List A → At → Type 0
-  Along part all start items c = (o : Other) → Like all c o → Like all start o × Rest part items (ahead c o) (read_series part (ahead start o))
+  -- so it is in words that are like these
+  abbrev pub Along : (List Word → Option (A × List Word)) → At → List A → At → Type 0
+  Along part start items c = (o : Other) → Like c o → Like start o × Rest part items (ahead c o) (read_series part (ahead start o))
 
   first_preceded : (a : A) (o : Option (List A × List Word)) → preceded (a ∷ []) o ≡ then_read o (with_first a)
   first_preceded a None = refl
@@ -66,9 +67,10 @@ module _ {A : Type 0} where
   next_preceded items a None = refl
   next_preceded items a (Some p) = ap (λ z. Some (z, p.1)) (append_assoc items (a ∷ []) p.0)
 
-  pub begun : (part : List Word → Option (A × List Word)) (all : List Word) (start c : At) (a : A) (old items : List A) → old ≡ [] → items ≡ old ++ a ∷ []
-      → Reads part all start (Ok a) c → Along part all start items c
-  begun part all start c a old items d e h o l =
+  pub begun : (part : List Word → Option (A × List Word)) (start c : At) (a : A) (old items : List A) → old ≡ [] → items ≡ old ++ a ∷ []
+      → Reads part start (Ok a) c → Along part start items c
+  unfolding read_series
+  begun part start c a old items d e h o l =
       let p = h o l in
       let rest = ahead c o in (
         p.0,
@@ -95,13 +97,13 @@ module _ {A : Type 0} where
             ∙ e));
       }
 
-  pub next : (part : List Word → Option (A × List Word)) (all : List Word) (start c m n : At) (a : A) (items more : List A) → Along part all start items c
-      → Tries (after kind.Comma) all c true m → Reads part all m (Ok a) n → more ≡ items ++ a ∷ [] → Along part all start more n
-  next part all start c m n a items more along comma h e o l =
+  pub next : (part : List Word → Option (A × List Word)) (start c m n : At) (a : A) (items more : List A) → Along part start items c
+      → Tries (after kind.Comma) c true m → Reads part m (Ok a) n → more ≡ items ++ a ∷ [] → Along part start more n
+  next part start c m n a items more along comma h e o l =
       let p = h o l in
       let q = comma o p.0 in
       let s = along o q.0 in
-      let f = left_less m.place n.place o.words (rises part all m n (Ok a) h o l) in (
+      let f = left_less m.place n.place o.words (rises part m n (Ok a) h o l) in (
         s.0,
         subst (λ i. Rest part i (ahead n o) (read_series part (ahead start o))) (sym e)
             (rest_more part items a (ahead c o) (ahead m o) (ahead n o) (read_series part (ahead start o)) s.1.most s.1.enough s.1.is q.1 p.1 f),
@@ -115,9 +117,9 @@ module _ {A : Type 0} where
       sym e ∙ (ap (λ r. preceded items (if_some r (λ rest. then_read (part rest) (λ a others. then_read (read_more part n others) (with_first a))) (Some ([], ws)))) h
       ∙ ap (λ z. Some (z, ws)) (append-nil items))
 
-  pub ended : (part : List Word → Option (A × List Word)) (all : List Word) (start c n : At) (items : List A) → Along part all start items c
-      → Tries (after kind.Comma) all c false n → Reads (read_series part) all start (Ok items) n
-  ended part all start c n items along comma o l =
+  pub ended : (part : List Word → Option (A × List Word)) (start c n : At) (items : List A) → Along part start items c
+      → Tries (after kind.Comma) c false n → Reads (read_series part) start (Ok items) n
+  ended part start c n items along comma o l =
       let q = comma o l in
       let s = along o q.0 in
       (s.0, rest_end part items (ahead c o) (read_series part (ahead start o)) s.1.most s.1.is q.1.0 ∙ ap (λ w. Some (items, w)) (sym q.1.1))
@@ -129,9 +131,9 @@ module _ {A : Type 0} where
       sym e ∙ (ap (λ r. preceded items (if_some r (λ rest. then_read (part rest) (λ a others. then_read (read_more part n others) (with_first a))) (Some ([], ws)))) h
       ∙ ap (λ r. preceded items (then_read r (λ a others. then_read (read_more part n others) (with_first a)))) g)
 
-  pub series_told : (part : List Word → Option (A × List Word)) (all : List Word) (start c m n : At) (items : List A) (r : Result (List A) Stop) (e : Stop) → Along part all start items c
-      → Tries (after kind.Comma) all c true m → Reads part all m (Err e) n → IsErr r × IsErrAnd r (λ y. y ≡ e) → Reads (read_series part) all start r n
-  series_told part all start c m n items r e along comma h i o l =
+  pub series_told : (part : List Word → Option (A × List Word)) (start c m n : At) (items : List A) (r : Result (List A) Stop) (e : Stop) → Along part start items c
+      → Tries (after kind.Comma) c true m → Reads part m (Err e) n → IsErr r × IsErrAnd r (λ y. y ≡ e) → Reads (read_series part) start r n
+  series_told part start c m n items r e along comma h i o l =
       let p = h o l in
       let q = comma o p.0 in
       let s = along o q.0 in (
@@ -149,8 +151,8 @@ module _ {A : Type 0} where
     pub enough : length ws ≤ most
     pub is : preceded items (read_sequence part most ws) ≡ whole
 
-  abbrev pub Amid : (List Word → Option (Option A × List Word)) → List Word → At → List A → At → Type 0
-  Amid part all start items c = (o : Other) → Like all c o → Like all start o × Others part items (ahead c o) (read_all part (ahead start o))
+  abbrev pub Amid : (List Word → Option (Option A × List Word)) → At → List A → At → Type 0
+  Amid part start items c = (o : Other) → Like c o → Like start o × Others part items (ahead c o) (read_all part (ahead start o))
 
   abbrev pub Takes : (List Word → Option (Option A × List Word)) → Type 0
   Takes part = (ws rest : List Word) (a : A) → part ws ≡ Some (Some a, rest) → length rest < length ws
@@ -159,8 +161,9 @@ module _ {A : Type 0} where
   all_preceded None = refl
   all_preceded (Some p) = refl
 
-  pub amid_start : (part : List Word → Option (Option A × List Word)) (all : List Word) (start : At) (items : List A) → items ≡ [] → Amid part all start items start
-  amid_start part all start items e o l = (
+  pub amid_start : (part : List Word → Option (Option A × List Word)) (start : At) (items : List A) → items ≡ [] → Amid part start items start
+  unfolding read_all
+  amid_start part start items e o l = (
     l,
     record {
       most = length (ahead start o);
@@ -175,9 +178,9 @@ module _ {A : Type 0} where
   others_none part items ws whole (suc n) e h =
       sym e ∙ ap (λ r. preceded items (then_read r (λ o rest. if_some o (λ a. then_read (read_sequence part n rest) (with_first a)) (Some ([], ws))))) h
 
-  pub amid_told : (part : List Word → Option (Option A × List Word)) (all : List Word) (start c n : At) (items : List A) (r : Result (List A) Stop) (e : Stop) → Amid part all start items c
-      → Reads part all c (Err e) n → IsErr r × IsErrAnd r (λ y. y ≡ e) → Reads (read_all part) all start r n
-  amid_told part all start c n items r e amid h i o l =
+  pub amid_told : (part : List Word → Option (Option A × List Word)) (start c n : At) (items : List A) (r : Result (List A) Stop) (e : Stop) → Amid part start items c
+      → Reads part c (Err e) n → IsErr r × IsErrAnd r (λ y. y ≡ e) → Reads (read_all part) start r n
+  amid_told part start c n items r e amid h i o l =
       let p = h o l in
       let s = amid o p.0 in (
         s.0,
@@ -194,13 +197,14 @@ module _ {A : Type 0} where
       sym e ∙ (ap (λ r. preceded items (then_read r (λ o rest. if_some o (λ a. then_read (read_sequence part n rest) (with_first a)) (Some ([], ws))))) h ∙ ap (λ z. Some (z, ws)) (append-nil items))
 
   -- no further part begins: back at its place
-  pub amid_end : (part : List Word → Option (Option A × List Word)) (all : List Word) (start c n m : At) (items : List A) (p : ℕ) → Amid part all start items c
-      → Reads part all c (Ok None) n → p ≡ c.place → m ≡ record { place = p; furthest = n.furthest } → Reads (read_all part) all start (Ok items) m
-  amid_end part all start c n m items p amid h e f o l =
+  pub amid_end : (part : List Word → Option (Option A × List Word)) (start c n m : At) (items : List A) (p : ℕ) → Amid part start items c
+      → Reads part c (Ok None) n → p ≡ c.place → m ≡ record { words = n.words; place = p; furthest = n.furthest } → Reads (read_all part) start (Ok items) m
+  amid_end part start c n m items p amid h e f o l =
       let place = ap (λ (x : At). x.place) f ∙ e in
-      let wide : Other = record { words = o.words; most = n.place } in
-      let q = h wide (record { same = subst (λ (x : At). take (suc x.furthest) o.words ≡ take (suc x.furthest) all) f l.same; within = omega arith }) in
-      let here : Like all c o = record { same = q.0.same; within = subst (λ x. x ≤ o.most) place l.within } in
+      let wide : Other = record { words = o.words; all = o.all; most = n.place } in
+      let same = subst (λ (x : At). take (suc x.furthest) o.words ≡ take (suc x.furthest) o.all) f l.same in
+      let q = h wide (record { own = sym (ap (λ (x : At). x.words) f) ∙ l.own; same = same; within = omega arith }) in
+      let here : Like c o = record { own = q.0.own; same = q.0.same; within = subst (λ x. x ≤ o.most) place l.within } in
       let s = amid o here in
       (s.0, others_end part items (ahead c o) (ahead n o) (read_all part (ahead start o)) s.1.most s.1.is q.1 ∙ ap (λ x. Some (items, drop x o.words)) (sym place))
 
@@ -214,9 +218,9 @@ module _ {A : Type 0} where
         ∙ (ap (λ r. preceded items (then_read r (λ o rest. if_some o (λ b. then_read (read_sequence part n rest) (with_first b)) (Some ([], ws))))) (sym h) ∙ e);
   }
 
-  pub amid_next : (part : List Word → Option (Option A × List Word)) (all : List Word) (start c n : At) (a : A) (items more : List A) → Takes part → Amid part all start items c
-      → Reads part all c (Ok (Some a)) n → more ≡ items ++ a ∷ [] → Amid part all start more n
-  amid_next part all start c n a items more takes amid h e o l =
+  pub amid_next : (part : List Word → Option (Option A × List Word)) (start c n : At) (a : A) (items more : List A) → Takes part → Amid part start items c
+      → Reads part c (Ok (Some a)) n → more ≡ items ++ a ∷ [] → Amid part start more n
+  amid_next part start c n a items more takes amid h e o l =
       let p = h o l in
       let s = amid o p.0 in (
         s.0,
@@ -225,11 +229,13 @@ module _ {A : Type 0} where
       )
 
   -- a part takes words
-  pub amid_fewer : (part : List Word → Option (Option A × List Word)) (all : List Word) (c n : At) (a : A) → Takes part → Reads part all c (Ok (Some a)) n → length all - n.place < length all - c.place
-  amid_fewer part all c n a takes h =
-      let mine : Other = record { words = all; most = n.place } in
-      let own : Like all n mine = record { same = refl; within = omega arith } in
-      let s = takes (drop c.place all) (drop n.place all) a (h mine own).1 in
-      let e = length-drop c.place all in
-      let f = length-drop n.place all in
-      omega (arith, s, e, f)
+  pub amid_fewer : (part : List Word → Option (Option A × List Word)) (c n : At) (a : A) → Takes part → Reads part c (Ok (Some a)) n → length n.words - n.place < length c.words - c.place
+  amid_fewer part c n a takes h =
+      let mine : Other = record { words = n.words; all = n.words; most = n.place } in
+      let own : Like n mine = record { own = refl; same = refl; within = omega arith } in
+      let p = h mine own in
+      let s = takes (drop c.place n.words) (drop n.place n.words) a p.1 in
+      let e = length-drop c.place n.words in
+      let f = length-drop n.place n.words in
+      let g = ap length p.0.own in
+      omega (arith, s, e, f, g)

@@ -9,8 +9,8 @@ use Rattle.iv_parse_terms.specs.Expressions.{sign_kind}
 use Rattle.iv_parse_terms.specs.readers.Expressions.{after_sign}
 use Rattle.iv_parse_data.specs.Series.{Sequence, Maybe, InEitherOrder}
 use Rattle.iv_parse_data.specs.readers.Series.{read_sequence, read_either_order, with_first}
-use Rattle.iv_parse_data.specs.readers.Tables.{read_number, read_quoted}
 use Rattle.iv_parse_data.proofs.Fronts.{Good, nothing_good, done_good, after_good, then_good, further, same_found}
+use Rattle.iv_parse_data.proofs.Readers.{read_number, read_quoted}
 
 abbrev pub IsNumber : List Word → ℕ → Type 0
 IsNumber ws n = ws ≡ number n ∷ []

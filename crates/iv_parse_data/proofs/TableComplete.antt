@@ -18,18 +18,19 @@ use Rattle.iv_parse_data.specs.Types.element.{Column, Constraint}
 use Rattle.iv_parse_terms.specs.After.{after, after_name, if_some, then_read, same}
 use Rattle.iv_parse_terms.specs.Expressions.{sign_kind}
 use Rattle.iv_parse_data.specs.Series.{Series, Sequence, Maybe, InParentheses}
-use Rattle.iv_parse_data.specs.readers.Series.{read_series}
+use Rattle.iv_parse_data.specs.readers.Series.{read_all, read_optional, read_series}
 use Rattle.iv_parse_data.specs.Data.{Names}
 use Rattle.iv_parse_data.specs.readers.Data.{then_word, read_name}
 use Rattle.iv_parse_data.specs.Tables.{mode_kind, IsVarchar, IsType, IsLiteral, IsDefault, IsConstraintName, IsDeferrable, IsInitially, IsTime, match_kind, IsMatch, action_words, IsOn, AreActions, IsReferences, null_words, IsColumnRule, IsColumnConstraint, IsTableRule, IsTableConstraint, IsElement}
-use Rattle.iv_parse_data.specs.readers.Tables.{read_length, read_varchar, read_type, read_literal, read_default, read_constraint_name, read_deferrable, read_mode, read_initially, read_time, read_match_type, read_match, read_strict_action, read_referential_action, read_on, read_actions, read_reference_columns, read_references, read_null_treatment, read_null_rule, read_primary_rule, read_unique_column, read_plain_rule, read_condition_rule, read_column_rule, column_constraint_of, read_column_constraint, read_column_constraints, read_column, read_key, read_primary_key, read_foreign_key, read_check_rule, read_unique_key, read_unique_rule, read_table_rule, read_table_constraint, read_column_element, read_element, read_elements}
+use Rattle.iv_parse_data.specs.readers.Tables.{read_length, read_type, read_literal, read_default, read_constraint_name, read_deferrable, read_mode, read_initially, read_time, read_match_type, read_match, read_referential_action, read_on, read_actions, read_references, read_null_treatment, read_column_rule, column_constraint_of, read_column_constraint, read_column_constraints, read_column, read_key, read_foreign_key, read_table_rule, read_table_constraint, read_element, read_elements}
 use Rattle.iv_parse_data.proofs.Complete.{Reads_all, Anything, series_complete, enclosed_complete}
 use Rattle.iv_parse_data.proofs.OptionalComplete.{maybe_after, either_after, either_order_complete, Parts, sequence_complete}
 use Rattle.iv_parse_data.proofs.DataComplete.{names_complete, column_list_reads, check_complete, other_word}
+use Rattle.iv_parse_data.proofs.Readers.{read_varchar, read_strict_action, read_reference_columns, read_null_rule, read_primary_rule, read_unique_column, read_plain_rule, read_condition_rule, read_primary_key, read_check_rule, read_unique_key, read_unique_rule, read_column_element}
 
 varchar_reads : (n : ℕ) (head rest : List Word) → IsVarchar head
     → read_type (head ++ plain kind.LeftParenthesis ∷ number n ∷ plain kind.RightParenthesis ∷ rest) ≡ Some (Varchar n, rest)
-unfolding read_type read_varchar read_length
+unfolding read_type read_length
 varchar_reads n head rest (inl h) = ap (λ z. read_type (z ++ plain kind.LeftParenthesis ∷ number n ∷ plain kind.RightParenthesis ∷ rest)) h
 varchar_reads n head rest (inr (inl h)) = ap (λ z. read_type (z ++ plain kind.LeftParenthesis ∷ number n ∷ plain kind.RightParenthesis ∷ rest)) h
 varchar_reads n head rest (inr (inr h)) = ap (λ z. read_type (z ++ plain kind.LeftParenthesis ∷ number n ∷ plain kind.RightParenthesis ∷ rest)) h
@@ -56,7 +57,7 @@ literal_reads (literal.Text t) front rest h = ap (λ z. read_literal (z ++ rest)
 literal_reads literal.Null front rest h = ap (λ z. read_literal (z ++ rest)) h
 
 default_reads : (d : Option Literal) (front rest : List Word) → Maybe IsDefault front d → after kind.Default rest ≡ None → read_default (front ++ rest) ≡ Some (d, rest)
-unfolding read_default
+unfolding read_optional
 default_reads None front rest p e =
     ap (λ z. read_default (z ++ rest)) p
     ∙ ap (λ o. if_some o (λ more. then_read (read_literal more) (λ l left. Some (Some l, left))) (Some (None, rest))) e
@@ -64,7 +65,7 @@ default_reads (Some l) front rest (inner, p, w) e =
     ap (λ z. read_default (z ++ rest)) w ∙ ap (λ o. then_read o (λ l left. Some (Some l, left))) (literal_reads l inner rest p)
 
 constraint_name_reads : (n : Option (List ℕ)) (front rest : List Word) → Maybe IsConstraintName front n → after kind.Constraint rest ≡ None → read_constraint_name (front ++ rest) ≡ Some (n, rest)
-unfolding read_constraint_name
+unfolding read_optional
 constraint_name_reads None front rest p e =
     ap (λ z. read_constraint_name (z ++ rest)) p
     ∙ ap (λ o. if_some o (λ more. then_read (read_name more) (λ n left. Some (Some n, left))) (Some (None, rest))) e
@@ -81,11 +82,11 @@ mode_reads Immediate rest = refl
 mode_reads Deferred rest = refl
 
 initially_reads : (m : ConstraintMode) (front rest : List Word) → IsInitially front m → read_initially (front ++ rest) ≡ Some (Some m, rest)
-unfolding read_initially
+unfolding read_optional
 initially_reads m front rest h = ap (λ z. read_initially (z ++ rest)) h ∙ ap (λ o. then_read o (λ m left. Some (Some m, left))) (mode_reads m rest)
 
 no_initially : (ws : List Word) → after kind.Initially ws ≡ None → read_initially ws ≡ Some (None, ws)
-unfolding read_initially
+unfolding read_optional
 no_initially ws e = ap (λ o. if_some o (λ rest. then_read (read_mode rest) (λ m more. Some (Some m, more))) (Some (None, ws))) e
 
 initially_apart : (m : ConstraintMode) (front rest : List Word) → IsInitially front m → read_deferrable (front ++ rest) ≡ Some (None, front ++ rest)
@@ -110,14 +111,14 @@ match_type_reads Simple rest = refl
 match_type_reads Full rest = refl
 
 match_reads : (m : Option MatchType) (front rest : List Word) → Maybe IsMatch front m → after kind.Match rest ≡ None → read_match (front ++ rest) ≡ Some (m, rest)
-unfolding read_match
+unfolding read_optional
 match_reads None front rest p e =
     ap (λ z. read_match (z ++ rest)) p
     ∙ ap (λ o. if_some o (λ more. then_read (read_match_type more) (λ m left. Some (Some m, left))) (Some (None, rest))) e
 match_reads (Some m) front rest p e = ap (λ z. read_match (z ++ rest)) p ∙ ap (λ o. then_read o (λ m left. Some (Some m, left))) (match_type_reads m rest)
 
 action_reads : (a : ReferentialAction) (rest : List Word) → read_referential_action (action_words a ++ rest) ≡ Some (a, rest)
-unfolding read_referential_action read_strict_action
+unfolding read_referential_action
 action_reads NoAction rest = refl
 action_reads Restrict rest = refl
 action_reads Cascade rest = refl
@@ -164,7 +165,7 @@ pub record EndsRule (ws : List Word) : Type 0 where
 
 references_read : (r : References) (front rest : List Word) → IsReferences front r → EndsRule rest
     → (back : List Word) × (front ++ rest ≡ plain kind.References ∷ back) × (read_references back ≡ Some (r, rest))
-unfolding read_references read_reference_columns
+unfolding read_references
 references_read r front rest (columns, matching, actions, p, q, s, w) e = (
   name r.table ∷ (columns ++ (matching ++ (actions ++ rest))),
   ap (λ z. z ++ rest) w
@@ -209,7 +210,7 @@ null_treatment_reads Distinct rest e =
 null_treatment_reads NotDistinct rest e = refl
 
 column_rule_reads : (r : ColumnRule) (front rest : List Word) → IsColumnRule front r → EndsRule rest → read_column_rule (front ++ rest) ≡ Some (Some r, rest)
-unfolding read_column_rule read_condition_rule read_plain_rule read_null_rule read_unique_column read_primary_rule
+unfolding read_column_rule
 column_rule_reads column_rule.NotNull front rest p e = ap (λ z. read_column_rule (z ++ rest)) p
 column_rule_reads (column_rule.Unique nulls) front rest p e =
     ap (λ z. read_column_rule (z ++ rest)) p
@@ -284,7 +285,7 @@ element_ends _ (comma ws) = record { rule = record { columns = refl; matching = 
 element_ends _ (closes ws) = record { rule = record { columns = refl; matching = refl; actions = refl; nulls = refl }; time = record { deferrable = refl; initially = refl } }
 
 no_constraint : (ws : List Word) → EndsElement ws → read_column_constraint ws ≡ Some (None, ws)
-unfolding read_column_constraint read_constraint_name read_column_rule read_condition_rule read_plain_rule read_primary_rule
+unfolding read_column_constraint read_column_rule read_optional
 no_constraint _ (comma ws) = refl
 no_constraint _ (closes ws) = refl
 
@@ -312,7 +313,7 @@ constraints_default (c ∷ cs) front rest (f, g, (called, rule, time, p, q, s, v
 
 column_reads : (c : ColumnDefinition) (type default constraints rest : List Word) → IsType type c.kind → Maybe IsDefault default c.default → Sequence IsColumnConstraint constraints c.constraints → EndsElement rest
     → read_column c.name (type ++ (default ++ (constraints ++ rest))) ≡ Some (c, rest)
-unfolding read_column read_column_constraints
+unfolding read_column read_all
 column_reads c type default constraints rest p q s e =
     ap (λ o. then_read o (λ k left. then_read (read_default left) (λ d more. then_read (read_column_constraints more)
     (λ cs last. Some (record { name = c.name; kind = k; default = d; constraints = cs }, last)))))
@@ -324,7 +325,6 @@ column_reads c type default constraints rest p q s e =
     (sequence_complete IsColumnConstraint EndsConstraint read_column_constraint constraint_parts c.constraints constraints rest s (element_ends rest e) (no_constraint rest e))
 
 key_complete : Reads_all (InParentheses Names) Anything read_key
-unfolding read_key
 key_complete = enclosed_complete Names (λ rest. Anything rest × (after kind.Comma rest ≡ None)) (read_series read_name) names_complete (λ ws. (tt, refl))
 
 -- a list of names doesn't begin with NULLS
@@ -332,7 +332,7 @@ key_nulls : (ns : List (List ℕ)) (front rest : List Word) → InParentheses Na
 key_nulls ns front rest (inner, p, w) = ap (λ z. after kind.Nulls (z ++ rest)) w
 
 table_rule_reads : (r : TableRule) (front rest : List Word) → IsTableRule front r → EndsRule rest → read_table_rule (front ++ rest) ≡ Some (r, rest)
-unfolding read_table_rule read_primary_key read_foreign_key read_unique_rule read_unique_key read_check_rule
+unfolding read_table_rule read_foreign_key
 table_rule_reads (table_rule.Unique nulls ns) front rest (key, p, w) e =
     ap (λ z. read_table_rule (z ++ rest)) w
     ∙ ap read_unique_key (append_assoc (null_words nulls) key rest)
@@ -386,7 +386,7 @@ constraint_name_none c front rest (called, rule, time, p, q, s, w) =
     ∙ called_name c.name c.rule called rule (time ++ rest) p q
 
 element_reads : (t : TableElement) (front rest : List Word) → IsElement front t → EndsElement rest → read_element (front ++ rest) ≡ Some (t, rest)
-unfolding read_element read_column_element
+unfolding read_element
 element_reads (Column c) front rest (type, default, constraints, p, q, s, w) e =
     ap (λ z. read_element (z ++ rest)) w
     ∙ ap (λ z. read_column_element c.name z) (append_assoc type (default ++ constraints) rest ∙ ap (λ z. type ++ z) (append_assoc default constraints rest))
@@ -396,7 +396,6 @@ element_reads (Constraint c) front rest p e =
     ∙ ap (λ o. then_read o (λ c left. Some (Constraint c, left))) (table_constraint_reads c front rest p (element_ends rest e))
 
 pub elements_complete : Reads_all (InParentheses (Series IsElement)) Anything read_elements
-unfolding read_elements
 elements_complete =
     enclosed_complete (Series IsElement) (λ rest. EndsElement rest × (after kind.Comma rest ≡ None)) (read_series read_element)
     (series_complete IsElement EndsElement read_element (record { reads = element_reads }) comma) (λ ws. (closes ws, refl))

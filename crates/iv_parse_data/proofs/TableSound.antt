@@ -16,14 +16,15 @@ use Rattle.iv_parse_data.specs.Types.element.{Column, Constraint}
 use Rattle.iv_parse_terms.specs.Expressions.{sign_kind}
 use Rattle.iv_parse_terms.specs.readers.Expressions.{after_sign}
 use Rattle.iv_parse_data.specs.Series.{Series, Sequence, Maybe, InParentheses, InEitherOrder}
-use Rattle.iv_parse_data.specs.readers.Series.{read_series, read_either_order}
+use Rattle.iv_parse_data.specs.readers.Series.{read_all, read_optional, read_series, read_either_order}
 use Rattle.iv_parse_data.specs.Data.{IsName, Names, IsColumnList, IsShallowCondition}
 use Rattle.iv_parse_data.specs.readers.Data.{read_name, read_column_list, read_check}
 use Rattle.iv_parse_data.specs.Tables.{mode_kind, IsVarchar, IsType, IsLiteral, IsDefault, IsConstraintName, IsDeferrable, IsInitially, IsTime, match_kind, IsMatch, action_words, IsOn, AreActions, IsReferences, null_words, IsColumnRule, IsColumnConstraint, IsColumn, IsTableRule, IsTableConstraint, IsElement}
-use Rattle.iv_parse_data.specs.readers.Tables.{read_number, read_quoted, read_length, read_varying, read_varchar, read_type, read_literal, read_default, read_constraint_name, read_deferrable, read_mode, read_initially, read_time, read_match_type, read_match, read_set_action, read_strict_action, read_referential_action, read_on, read_actions, read_reference_columns, read_references, read_null_treatment, read_null_rule, read_primary_rule, read_unique_column, read_plain_rule, read_condition_rule, read_column_rule, column_constraint_of, read_column_constraint, read_column_constraints, read_column, read_key, read_primary_key, read_foreign_key, read_check_rule, read_unique_key, read_unique_rule, read_table_rule, read_table_constraint, read_column_element, read_element, read_elements}
+use Rattle.iv_parse_data.specs.readers.Tables.{read_varying, read_length, read_type, read_literal, read_default, read_constraint_name, read_deferrable, read_mode, read_initially, read_time, read_match_type, read_match, read_referential_action, read_on, read_actions, read_references, read_null_treatment, read_column_rule, column_constraint_of, read_column_constraint, read_column_constraints, read_column, read_key, read_foreign_key, read_table_rule, read_table_constraint, read_element, read_elements}
 use Rattle.iv_parse_data.proofs.Fronts.{Good, nothing_good, done_good, after_good, name_good, then_good, made_good, series_good, enclosed_good, ahead_good}
 use Rattle.iv_parse_data.proofs.OptionalSound.{IsNumber, IsQuoted, IsSign, number_good, quoted_good, sign_good, found_good, sequence_good, either_order_good}
 use Rattle.iv_parse_data.proofs.DataSound.{one_name_good, names_good, column_list_good, check_good}
+use Rattle.iv_parse_data.proofs.Readers.{read_number, read_quoted, read_varchar, read_set_action, read_strict_action, read_reference_columns, read_null_rule, read_primary_rule, read_unique_column, read_plain_rule, read_condition_rule, read_primary_key, read_check_rule, read_unique_key, read_unique_rule, read_column_element}
 
 length_good : (head : List Word) → IsVarchar head → (ws : List Word) → Good (λ back t. IsType (head ++ back) t) ws (read_length ws)
 unfolding read_length
@@ -36,7 +37,6 @@ length_good head h ws =
     (nothing_good _ ws)
 
 varchar_good : (ws : List Word) → Good IsType ws (read_varchar ws)
-unfolding read_varchar
 varchar_good ws =
     after_good IsType kind.Varchar ws read_length _ (λ rest. length_good (plain kind.Varchar ∷ []) (inl refl) rest)
     (after_good IsType kind.Character ws read_varying _
@@ -64,14 +64,14 @@ literal_good ws =
     (after_good IsLiteral kind.Null ws _ None (λ rest. done_good _ rest literal.Null refl) (nothing_good IsLiteral ws))))
 
 default_good : (ws : List Word) → Good (Maybe IsDefault) ws (read_default ws)
-unfolding read_default
+unfolding read_optional
 default_good ws =
     after_good (Maybe IsDefault) kind.Default ws _ _
     (λ rest. made_good IsLiteral _ rest (read_literal rest) Some (literal_good rest) (λ l front p. (front, p, refl)))
     (done_good (Maybe IsDefault) ws None refl)
 
 constraint_name_good : (ws : List Word) → Good (Maybe IsConstraintName) ws (read_constraint_name ws)
-unfolding read_constraint_name
+unfolding read_optional
 constraint_name_good ws =
     after_good (Maybe IsConstraintName) kind.Constraint ws _ _
     (λ rest. name_good _ rest _ (λ n more. done_good _ more (Some n) refl))
@@ -94,7 +94,7 @@ mode_good ws =
     (after_good IsMode kind.Immediate ws _ None (λ rest. done_good _ rest Immediate refl) (nothing_good IsMode ws))
 
 initially_good : (ws : List Word) → Good (Maybe IsInitially) ws (read_initially ws)
-unfolding read_initially
+unfolding read_optional
 initially_good ws =
     after_good (Maybe IsInitially) kind.Initially ws _ _
     (λ rest. made_good IsMode _ rest (read_mode rest) Some (mode_good rest) (λ m front p. ap (λ z. plain kind.Initially ∷ z) p))
@@ -116,7 +116,7 @@ match_type_good ws =
     (after_good IsMatchType kind.Full ws _ None (λ rest. done_good _ rest Full refl) (nothing_good IsMatchType ws))
 
 match_good : (ws : List Word) → Good (Maybe IsMatch) ws (read_match ws)
-unfolding read_match
+unfolding read_optional
 match_good ws =
     after_good (Maybe IsMatch) kind.Match ws _ _
     (λ rest. made_good IsMatchType _ rest (read_match_type rest) Some (match_type_good rest) (λ m front p. ap (λ z. plain kind.Match ∷ z) p))
@@ -126,7 +126,7 @@ abbrev pub IsAction : List Word → ReferentialAction → Type 0
 IsAction ws a = ws ≡ action_words a
 
 action_good : (ws : List Word) → Good IsAction ws (read_referential_action ws)
-unfolding read_referential_action read_strict_action
+unfolding read_referential_action
 action_good ws =
     after_good IsAction kind.Cascade ws _ _ (λ rest. done_good _ rest Cascade refl)
     (after_good IsAction kind.Set ws read_set_action _
@@ -149,7 +149,7 @@ actions_good ws =
     either_order_good (IsOn kind.Delete) (IsOn kind.Update) (read_on kind.Delete) (read_on kind.Update) (on_good kind.Delete) (on_good kind.Update) ws
 
 references_good : (ws : List Word) → Good (λ back r. IsReferences (plain kind.References ∷ back) r) ws (read_references ws)
-unfolding read_references read_reference_columns
+unfolding read_references
 references_good ws =
     name_good _ ws read_reference_columns
     (λ t rest. then_good IsColumnList _ rest (read_column_list rest) _ (column_list_good rest)
@@ -170,7 +170,6 @@ null_treatment_good ws =
     (done_good IsNullTreatment ws Distinct refl)
 
 plain_rule_good : (ws : List Word) → Good (Maybe IsColumnRule) ws (read_plain_rule ws)
-unfolding read_plain_rule read_null_rule read_unique_column read_primary_rule
 plain_rule_good ws =
     after_good (Maybe IsColumnRule) kind.Not ws read_null_rule _
     (λ rest. after_good _ kind.Null rest _ None (λ more. done_good _ more (Some column_rule.NotNull) refl) (nothing_good _ rest))
@@ -181,7 +180,7 @@ plain_rule_good ws =
     (done_good (Maybe IsColumnRule) ws None refl)))
 
 column_rule_good : (ws : List Word) → Good (Maybe IsColumnRule) ws (read_column_rule ws)
-unfolding read_column_rule read_condition_rule
+unfolding read_column_rule
 column_rule_good ws =
     after_good (Maybe IsColumnRule) kind.References ws _ _
     (λ rest. made_good (λ back r. IsReferences (plain kind.References ∷ back) r) _ rest (read_references rest) (λ r. Some (column_rule.References r)) (references_good rest) (λ r front p. p))
@@ -204,7 +203,7 @@ column_constraint_good ws =
     (λ r rule more q. column_constraint_of_good called rule more n r p q))
 
 column_constraints_good : (ws : List Word) → Good (Sequence IsColumnConstraint) ws (read_column_constraints ws)
-unfolding read_column_constraints
+unfolding read_all
 column_constraints_good ws = sequence_good IsColumnConstraint read_column_constraint column_constraint_good (length ws) ws
 
 column_good : (n : List ℕ) (ws : List Word) → Good (λ back c. IsColumn (name n ∷ back) c) ws (read_column n ws)
@@ -216,11 +215,10 @@ column_good n ws =
     (column_constraints_good more) (λ cs constraints r. (type, default, constraints, p, q, r, refl))))
 
 key_good : (ws : List Word) → Good (InParentheses Names) ws (read_key ws)
-unfolding read_key
 key_good ws = enclosed_good Names (read_series read_name) names_good ws
 
 table_rule_good : (ws : List Word) → Good IsTableRule ws (read_table_rule ws)
-unfolding read_table_rule read_primary_key read_foreign_key read_unique_rule read_unique_key read_check_rule
+unfolding read_table_rule read_foreign_key
 table_rule_good ws =
     after_good IsTableRule kind.Primary ws read_primary_key _
     (λ rest. after_good _ kind.Key rest _ None
@@ -250,7 +248,7 @@ table_constraint_good ws =
     (λ r rule more q. made_good IsTime _ more (read_time more) (λ t. record { name = n; rule = r; time = t }) (time_good more) (λ t time h. (called, rule, time, p, q, h, refl))))
 
 element_good : (ws : List Word) → Good IsElement ws (read_element ws)
-unfolding read_element read_column_element
+unfolding read_element
 element_good ws =
     found_good IsName IsElement ws (read_name ws) _ _ (one_name_good ws)
     (λ n front rest p. made_good (λ back c. IsColumn (name n ∷ back) c) _ rest (read_column n rest) Column (column_good n rest)
@@ -258,5 +256,4 @@ element_good ws =
     (made_good IsTableConstraint IsElement ws (read_table_constraint ws) Constraint (table_constraint_good ws) (λ c front p. p))
 
 pub elements_good : (ws : List Word) → Good (InParentheses (Series IsElement)) ws (read_elements ws)
-unfolding read_elements
 elements_good ws = enclosed_good (Series IsElement) (read_series read_element) (λ vs. series_good IsElement read_element element_good vs) ws

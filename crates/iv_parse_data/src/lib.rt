@@ -11,10 +11,8 @@ mod selecting;
 mod table;
 mod types;
 
-pub use characteristics::mode;
 pub use inserting::insert;
 pub use parts::{Parse, ParseSome};
-pub use repeated::{sequence, series};
-pub use selecting::{delete, enclosed_condition, select, update};
+pub use repeated::{enclosed, sequence, series};
+pub use selecting::{delete, select, update};
 pub use table::{alter_table, create_table};
-pub use types::quoted;

@@ -3,7 +3,7 @@ ghost use Rattle.std.specs.Prelude.{◌≡◌, ◌<◌, Some, List, length};
 ghost use Rattle.iv_lex.specs.Words.{Word};
 ghost use Rattle.iv_parse_terms.specs.Reading.{Reads};
 
-use iv_parse_terms::{Cursor, Source, Stop};
+use iv_parse_terms::{Cursor, Stop};
 use iv_syntax::Name;
 
 /// A part of the grammar.
@@ -14,8 +14,8 @@ pub trait Parse: Sized {
     ghost found: { List Word → Option (Self × List Word) };
 
     /// The part at the cursor.
-    fn parse(source: &Source<'_>, cursor: &mut Cursor) -> Result<Self, Stop>
-        ensures { Reads found source.now cursor.old result cursor.new };
+    fn parse(cursor: &mut Cursor<'_>) -> Result<Self, Stop>
+        ensures { Reads found cursor.old result cursor.new };
 }
 
 impl Parse for Name {
@@ -23,8 +23,8 @@ impl Parse for Name {
 
     ghost found = { after_name };
 
-    fn parse(source: &Source<'_>, cursor: &mut Cursor) -> Result<Name, Stop> {
-        cursor.name(source)
+    fn parse(cursor: &mut Cursor<'_>) -> Result<Name, Stop> {
+        cursor.name()
     }
 }
 
@@ -41,6 +41,6 @@ pub trait ParseSome: Sized {
             → length rest < length ws };
 
     /// The part at the cursor, where one begins there.
-    fn parse_some(source: &Source<'_>, cursor: &mut Cursor) -> Result<Option<Self>, Stop>
-        ensures { Reads found_some source.now cursor.old result cursor.new };
+    fn parse_some(cursor: &mut Cursor<'_>) -> Result<Option<Self>, Stop>
+        ensures { Reads found_some cursor.old result cursor.new };
 }

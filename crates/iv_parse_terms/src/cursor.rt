@@ -1,46 +1,60 @@
-//! A place among words, from which they are read.
-ghost use Rattle.std.specs.Prelude.{◌≡◌, ◌<◌, ◌≤◌, ℕ, true};
+//! A place among the words of a text, from which they are read.
+ghost use Rattle.std.specs.Prelude.{◌≡◌, ◌<◌, ◌≤◌, ℕ, IfOk, length, option_and_then, slice_get, true};
+ghost use Rattle.iv_lex.specs.Words.{words};
 ghost use Rattle.iv_parse_terms.specs.After.{after, after_name, after_number, after_quoted, is_plain};
 ghost use Rattle.iv_parse_terms.specs.readers.Expressions.{after_sign};
 ghost use Rattle.iv_parse_terms.specs.readers.Conditions.{after_comparison};
-ghost use Rattle.iv_parse_terms.specs.Reading.{Peeks, Reads, Tries, TriesPart, TriesUnlessMemory, word, after_both, looked, passed};
+ghost use Rattle.iv_parse_terms.specs.Reading.{Expects, Follows, Peeks, Reads, Tries, TriesPart, TriesUnlessMemory, after_both, looked, name_in, number_in, passed, quoted_in, word_is};
 
-use crate::source::Source;
 use crate::stop::Stop;
 use crate::wanted::Wanted;
+use crate::word::{name_of, number_of, quoted_of, token_is};
 use iv_expr::Comparison;
-use iv_lex::TokenKind;
+use iv_lex::{Token, TokenKind};
 use iv_syntax::{Name, Sign};
 use iv_value::Text;
-use std::alloc::AllocError;
+use std::alloc::{AllocError, Global};
 use std::marker::Model;
 
-/// A place among words, the furthest word that was looked at, and what was looked for there and not found.
+/// A place among the tokens of a text, seen as words; the furthest word that was looked at; and what was looked for there
+/// and not found.
 #[derive(Drop)]
-pub struct Cursor {
+pub struct Cursor<'a> {
+    alloc: Global,
+    text: &'a str,
+    tokens: &'a [Token],
     place: usize,
     furthest: usize,
     wanted: Wanted,
 }
 
-impl Model for Cursor {
+impl<'a> Model for Cursor<'a> {
+    ghost use Rattle.iv_lex.specs.Words.{words};
     ghost use Rattle.iv_parse_terms.specs.Reading.{At};
 
     ghost Value = { At };
 
-    ghost view = { λ c. record { place = c.place; furthest = c.furthest } };
+    ghost view = { λ c. record { words = words c.text.now c.tokens.now; place = c.place; furthest = c.furthest } };
 }
 
-impl Cursor {
+impl<'a> Cursor<'a> {
     /// A cursor at a place, where nothing was looked at yet but the word there.
-    pub fn new(place: usize) -> Cursor
-        ensures { result ≡ record { place = place; furthest = place } }
+    pub fn new(alloc: Global, text: &'a str, tokens: &'a [Token], place: usize) -> Cursor<'a>
+        ensures { result ≡ record { words = words text.now tokens.now; place = place; furthest = place } }
     {
         Cursor {
+            alloc,
+            text,
+            tokens,
             place,
             furthest: place,
             wanted: Wanted::new(),
         }
+    }
+
+    /// Where memory comes from.
+    pub fn alloc(&self) -> Global {
+        self.alloc
     }
 
     /// The place.
@@ -91,18 +105,63 @@ impl Cursor {
 
     /// Goes back to an earlier place.
     pub fn go_back(&mut self, place: usize)
-        ensures { self.new ≡ record { place = place; furthest = self.old.furthest } }
+        ensures { self.new ≡ record { words = self.old.words; place = place; furthest = self.old.furthest } }
     {
         self.place = place;
     }
 
-    /// Whether this word is the next one.
-    pub fn is_at(&mut self, source: &Source<'_>, kind: TokenKind) -> bool
+    // Whether this symbol or reserved word stands at the place.
+    fn is_here(&self, kind: TokenKind) -> bool
         requires { is_plain kind ≡ true }
-        ensures { Peeks (after kind) source.now self.old result self.new }
+        ensures found { result ≡ word_is kind (slice_get self.now.words self.now.place) }
+        ensures few { length self.now.words ≤ usize.MAX }
+    {
+        match token_at(self.tokens, self.place) {
+            Some(token) => token_is(token, kind),
+            None => false,
+        }
+    }
+
+    // The name at the place.
+    fn name_here(&self) -> Result<Option<Name>, AllocError>
+        ensures found { IfOk result (λ n. n ≡ option_and_then name_in (slice_get self.now.words self.now.place)) }
+        ensures few { length self.now.words ≤ usize.MAX }
+    {
+        match token_at(self.tokens, self.place) {
+            Some(token) => name_of(self.alloc, self.text, token),
+            None => Ok(None),
+        }
+    }
+
+    // The text at the place.
+    fn quoted_here(&self) -> Result<Option<Text>, AllocError>
+        ensures found { IfOk result (λ t. t ≡ option_and_then quoted_in (slice_get self.now.words self.now.place)) }
+        ensures few { length self.now.words ≤ usize.MAX }
+    {
+        match token_at(self.tokens, self.place) {
+            Some(token) => quoted_of(self.alloc, self.text, token),
+            None => Ok(None),
+        }
+    }
+
+    // The number at the place.
+    fn number_here(&self) -> Option<u64>
+        ensures found { result ≡ option_and_then number_in (slice_get self.now.words self.now.place) }
+        ensures few { length self.now.words ≤ usize.MAX }
+    {
+        match token_at(self.tokens, self.place) {
+            Some(token) => number_of(token),
+            None => None,
+        }
+    }
+
+    /// Whether this word is the next one.
+    pub fn is_at(&mut self, kind: TokenKind) -> bool
+        requires { is_plain kind ≡ true }
+        ensures { Peeks (after kind) self.old result self.new }
     {
         self.look();
-        if source.is_at(self.place(), kind) {
+        if self.is_here(kind) {
             return true;
         }
         self.miss(kind);
@@ -110,12 +169,12 @@ impl Cursor {
     }
 
     /// Goes past this word, where it is the next one.
-    pub fn accept(&mut self, source: &Source<'_>, kind: TokenKind) -> bool
+    pub fn accept(&mut self, kind: TokenKind) -> bool
         requires { is_plain kind ≡ true }
-        ensures { Tries (after kind) source.now self.old result self.new }
+        ensures { Tries (after kind) self.old result self.new }
     {
         self.look();
-        if source.is_at(self.place(), kind) {
+        if self.is_here(kind) {
             self.pass();
             return true;
         }
@@ -124,16 +183,16 @@ impl Cursor {
     }
 
     /// Goes past these two words, where they are the next ones.
-    pub fn accept_both(&mut self, source: &Source<'_>, first: TokenKind, second: TokenKind) -> bool
+    pub fn accept_both(&mut self, first: TokenKind, second: TokenKind) -> bool
         requires first { is_plain first ≡ true }
         requires second { is_plain second ≡ true }
-        ensures { Tries (after_both first second) source.now self.old result self.new }
+        ensures { Tries (after_both first second) self.old result self.new }
     {
         let place = self.place();
-        if !self.accept(source, first) {
+        if !self.accept(first) {
             return false;
         }
-        if self.accept(source, second) {
+        if self.accept(second) {
             return true;
         }
         self.go_back(place);
@@ -141,22 +200,34 @@ impl Cursor {
     }
 
     /// Goes past this word, which has to be the next one.
-    pub fn expect(&mut self, source: &Source<'_>, kind: TokenKind) -> Result<(), Stop>
+    pub fn expect(&mut self, kind: TokenKind) -> Result<(), Stop>
         requires { is_plain kind ≡ true }
-        ensures { Reads (word kind) source.now self.old result self.new }
+        ensures { Expects (after kind) self.old result self.new }
     {
-        if self.accept(source, kind) {
+        if self.accept(kind) {
             return Ok(());
         }
         Err(Stop::NoMatch)
     }
 
+    /// The value, where this word follows it; the cursor goes past the word.
+    pub fn followed<T: Drop>(&mut self, value: T, kind: TokenKind) -> Result<T, Stop>
+        requires { is_plain kind ≡ true }
+        ensures { Follows (after kind) value self.old result self.new }
+    {
+        if self.accept(kind) {
+            return Ok(value);
+        }
+        drop(value);
+        Err(Stop::NoMatch)
+    }
+
     /// Goes past a name, where one is next.
-    pub fn accept_name(&mut self, source: &Source<'_>) -> Result<Option<Name>, AllocError>
-        ensures { TriesUnlessMemory after_name source.now self.old result self.new }
+    pub fn accept_name(&mut self) -> Result<Option<Name>, AllocError>
+        ensures { TriesUnlessMemory after_name self.old result self.new }
     {
         self.look();
-        match source.name_at(self.place()) {
+        match self.name_here() {
             Ok(Some(name)) => {
                 self.pass();
                 Ok(Some(name))
@@ -170,21 +241,18 @@ impl Cursor {
     }
 
     /// Goes past a name, which has to be next.
-    pub fn name(&mut self, source: &Source<'_>) -> Result<Name, Stop>
-        ensures { Reads after_name source.now self.old result self.new }
+    pub fn name(&mut self) -> Result<Name, Stop>
+        ensures { Reads after_name self.old result self.new }
     {
-        let Some(name) = self.accept_name(source)? else {
-            return Err(Stop::NoMatch);
-        };
-        Ok(name)
+        self.accept_name()?.ok_or(Stop::NoMatch)
     }
 
     /// Goes past a text, where one is next.
-    pub fn accept_quoted(&mut self, source: &Source<'_>) -> Result<Option<Text>, AllocError>
-        ensures { TriesUnlessMemory after_quoted source.now self.old result self.new }
+    pub fn accept_quoted(&mut self) -> Result<Option<Text>, AllocError>
+        ensures { TriesUnlessMemory after_quoted self.old result self.new }
     {
         self.look();
-        match source.quoted_at(self.place()) {
+        match self.quoted_here() {
             Ok(Some(quoted)) => {
                 self.pass();
                 Ok(Some(quoted))
@@ -197,12 +265,19 @@ impl Cursor {
         }
     }
 
+    /// Goes past a text, which has to be next.
+    pub fn quoted(&mut self) -> Result<Text, Stop>
+        ensures { Reads after_quoted self.old result self.new }
+    {
+        self.accept_quoted()?.ok_or(Stop::NoMatch)
+    }
+
     /// Goes past a number, where one is next.
-    pub fn accept_number(&mut self, source: &Source<'_>) -> Option<u64>
-        ensures { TriesPart after_number source.now self.old result self.new }
+    pub fn accept_number(&mut self) -> Option<u64>
+        ensures { TriesPart after_number self.old result self.new }
     {
         self.look();
-        let Some(number) = source.number_at(self.place()) else {
+        let Some(number) = self.number_here() else {
             self.miss(TokenKind::Number(0));
             return None;
         };
@@ -210,41 +285,55 @@ impl Cursor {
         Some(number)
     }
 
-    /// Goes past a comparison, where one is next.
-    pub fn accept_comparison(&mut self, source: &Source<'_>) -> Option<Comparison>
-        ensures { TriesPart after_comparison source.now self.old result self.new }
+    /// Goes past a number, which has to be next.
+    pub fn number(&mut self) -> Result<u64, Stop>
+        ensures { Reads after_number self.old result self.new }
     {
-        self.look();
-        let Some(comparison) = source.comparison_at(self.place()) else {
-            self.miss_comparison();
-            return None;
-        };
-        self.pass();
-        Some(comparison)
+        self.accept_number().ok_or(Stop::NoMatch)
     }
 
-    // Notes that no comparison is at the place.
-    fn miss_comparison(&mut self)
-        ensures { self.new ≡ self.old }
+    /// Goes past a comparison, where one is next.
+    pub fn accept_comparison(&mut self) -> Option<Comparison>
+        ensures { TriesPart after_comparison self.old result self.new }
     {
-        self.miss(TokenKind::Equals);
-        self.miss(TokenKind::NotEquals);
-        self.miss(TokenKind::Less);
-        self.miss(TokenKind::LessEquals);
-        self.miss(TokenKind::Greater);
-        self.miss(TokenKind::GreaterEquals);
+        if self.accept(TokenKind::Equals) {
+            return Some(Comparison::Equal);
+        }
+        if self.accept(TokenKind::NotEquals) {
+            return Some(Comparison::NotEqual);
+        }
+        if self.accept(TokenKind::Less) {
+            return Some(Comparison::Less);
+        }
+        if self.accept(TokenKind::LessEquals) {
+            return Some(Comparison::LessEqual);
+        }
+        if self.accept(TokenKind::Greater) {
+            return Some(Comparison::Greater);
+        }
+        if self.accept(TokenKind::GreaterEquals) {
+            return Some(Comparison::GreaterEqual);
+        }
+        None
     }
 
     /// Goes past a sign, where one is next.
-    pub fn accept_sign(&mut self, source: &Source<'_>) -> Option<Sign>
-        ensures { TriesPart after_sign source.now self.old result self.new }
+    pub fn accept_sign(&mut self) -> Option<Sign>
+        ensures { TriesPart after_sign self.old result self.new }
     {
-        if self.accept(source, TokenKind::Plus) {
+        if self.accept(TokenKind::Plus) {
             return Some(Sign::Plus);
         }
-        if self.accept(source, TokenKind::Minus) {
+        if self.accept(TokenKind::Minus) {
             return Some(Sign::Minus);
         }
         None
     }
+}
+
+fn token_at(tokens: &[Token], place: usize) -> Option<Token>
+    ensures token { result ≡ slice_get tokens.now place }
+    ensures few { length tokens.now ≤ usize.MAX }
+{
+    tokens.get(place).copied()
 }

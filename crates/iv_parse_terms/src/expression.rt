@@ -1,14 +1,13 @@
 //! Expressions, read from words.
-ghost use Rattle.std.specs.Prelude.{◌≡◌, ◌+◌, ◌≤◌, max, MatchOption};
-ghost use Rattle.iv_syntax.specs.Trees.{group, signed, product, sum, depth as depth_of};
-ghost use Rattle.iv_parse_terms.specs.readers.Expressions.{column_from, null_or_column, simple as simple_at, close_group, fits, signed_from, more_factors, more_terms, read_primary, read_factor, read_term, read_expression as read};
+ghost use Rattle.std.specs.Prelude.{◌≡◌, ◌≤◌};
+ghost use Rattle.iv_syntax.specs.Trees.{group, signed, depth as depth_of};
+ghost use Rattle.iv_parse_terms.specs.readers.Expressions.{column_tree, joined, null_or_column, simple as simple_at, close_group, fits, signed_from, more_factors, more_terms, read_primary, read_factor, read_term, read_expression as read};
 ghost use Rattle.iv_parse_terms.specs.Reading.{MakesAs, Reads, ReadsAs};
 ghost use Rattle.iv_parse_terms.specs.Seen.{tree_in};
 
 use crate::cursor::Cursor;
 use crate::expression_part::ExpressionPart;
-use crate::make::{group_of, product_of, signed_of, sum_of};
-use crate::source::Source;
+use crate::make::{group_of, joined_of, signed_of};
 use crate::stop::Stop;
 use iv_lex::TokenKind;
 use iv_syntax::{ColumnName, DEEPEST_TREE, Expression, Name, Sign};
@@ -50,57 +49,28 @@ fn make_signed(
     })
 }
 
-// Two operands and the depth of what joins them, where it is not too deep.
-fn fitting(
+fn make_joined(
+    alloc: Global,
     limit: u8,
+    sign: Option<Sign>,
     left: ExpressionPart,
     right: ExpressionPart,
-) -> Option<(Expression, Expression, u8)>
-    ensures { MatchOption result
-        (limit ≤ max (depth_of left.tree) (depth_of right.tree))
-        (λ p. (p.0 ≡ left.tree) × (p.1 ≡ right.tree)
-        × (p.2 ≡ 1 + max (depth_of left.tree) (depth_of right.tree)) × (p.2 ≤ limit)) }
+) -> Result<ExpressionPart, Stop>
+    ensures { MakesAs tree_in (fits limit (joined sign left.tree right.tree)) result }
 {
     let below = left.depth.max(right.depth);
     if below >= limit {
         drop(left);
         drop(right);
-        return None;
+        return Err(Stop::TooDeep);
     }
     let (left, _) = left.into_parts();
     let (right, _) = right.into_parts();
-    Some((left, right, below + 1))
-}
-
-fn make_product(
-    alloc: Global,
-    limit: u8,
-    left: ExpressionPart,
-    right: ExpressionPart,
-) -> Result<ExpressionPart, Stop>
-    ensures { MakesAs tree_in (fits limit (product left.tree right.tree)) result }
-{
-    let Some((left, right, depth)) = fitting(limit, left, right) else {
-        return Err(Stop::TooDeep);
-    };
-    let tree = product_of(alloc, left, right)?;
-    Ok(ExpressionPart { tree, depth })
-}
-
-fn make_sum(
-    alloc: Global,
-    limit: u8,
-    sign: Sign,
-    left: ExpressionPart,
-    right: ExpressionPart,
-) -> Result<ExpressionPart, Stop>
-    ensures { MakesAs tree_in (fits limit (sum sign left.tree right.tree)) result }
-{
-    let Some((left, right, depth)) = fitting(limit, left, right) else {
-        return Err(Stop::TooDeep);
-    };
-    let tree = sum_of(alloc, sign, left, right)?;
-    Ok(ExpressionPart { tree, depth })
+    let tree = joined_of(alloc, sign, left, right)?;
+    Ok(ExpressionPart {
+        tree,
+        depth: below + 1,
+    })
 }
 
 fn leaf(tree: Expression) -> ExpressionPart
@@ -110,190 +80,158 @@ fn leaf(tree: Expression) -> ExpressionPart
     ExpressionPart { tree, depth: 1 }
 }
 
-// The column whose first name was read.
-fn column(source: &Source<'_>, cursor: &mut Cursor, first: Name) -> Result<ExpressionPart, Stop>
-    ensures { ReadsAs tree_in (column_from first) source.now cursor.old result cursor.new }
+fn column_of(qualifier: Option<Name>, name: Name) -> ExpressionPart
+    ensures { result.tree ≡ column_tree qualifier name }
 {
-    if cursor.accept(source, TokenKind::Period) {
-        let name = cursor.name(source)?;
-        let column = ColumnName {
-            qualifier: Some(first),
-            name,
-        };
-        return Ok(leaf(Expression::Column(column)));
-    }
-    let column = ColumnName {
-        qualifier: None,
-        name: first,
-    };
-    Ok(leaf(Expression::Column(column)))
+    leaf(Expression::Column(ColumnName { qualifier, name }))
 }
 
 // NULL or a column.
-fn null_or_column(source: &Source<'_>, cursor: &mut Cursor) -> Result<ExpressionPart, Stop>
-    ensures { ReadsAs tree_in null_or_column source.now cursor.old result cursor.new }
+fn null_or_column(cursor: &mut Cursor<'_>) -> Result<ExpressionPart, Stop>
+    ensures { ReadsAs tree_in null_or_column cursor.old result cursor.new }
 {
-    if cursor.accept(source, TokenKind::Null) {
+    if cursor.accept(TokenKind::Null) {
         return Ok(leaf(Expression::Null));
     }
-    let first = cursor.name(source)?;
-    column(source, cursor, first)
+    let first = cursor.name()?;
+    if cursor.accept(TokenKind::Period) {
+        let name = cursor.name()?;
+        return Ok(column_of(Some(first), name));
+    }
+    Ok(column_of(None, first))
 }
 
 /// A number, a text, NULL or a column.
-pub fn simple(source: &Source<'_>, cursor: &mut Cursor) -> Result<ExpressionPart, Stop>
-    ensures { ReadsAs tree_in simple_at source.now cursor.old result cursor.new }
+pub fn simple(cursor: &mut Cursor<'_>) -> Result<ExpressionPart, Stop>
+    ensures { ReadsAs tree_in simple_at cursor.old result cursor.new }
 {
-    if let Some(number) = cursor.accept_number(source) {
+    if let Some(number) = cursor.accept_number() {
         return Ok(leaf(Expression::Number(number)));
     }
-    if let Some(quoted) = cursor.accept_quoted(source)? {
+    if let Some(quoted) = cursor.accept_quoted()? {
         return Ok(leaf(Expression::Text(quoted)));
     }
-    null_or_column(source, cursor)
+    null_or_column(cursor)
 }
 
-fn close(
-    source: &Source<'_>,
-    cursor: &mut Cursor,
-    limit: u8,
-    inside: ExpressionPart,
-) -> Result<ExpressionPart, Stop>
-    ensures { ReadsAs tree_in (close_group limit inside.tree) source.now cursor.old result
-        cursor.new }
+fn close(cursor: &mut Cursor<'_>, limit: u8, inside: ExpressionPart) -> Result<ExpressionPart, Stop>
+    ensures { ReadsAs tree_in (close_group limit inside.tree) cursor.old result cursor.new }
 {
-    if cursor.accept(source, TokenKind::RightParenthesis) {
-        return make_group(source.alloc(), limit, inside);
-    }
-    drop(inside);
-    Err(Stop::NoMatch)
+    let inside = cursor.followed(inside, TokenKind::RightParenthesis)?;
+    make_group(cursor.alloc(), limit, inside)
 }
 
 /// A primary: a number, a text, NULL, a column or an expression in parentheses.
 #[cycle(expression)]
-fn primary(source: &Source<'_>, cursor: &mut Cursor, limit: u8) -> Result<ExpressionPart, Stop>
+fn primary(cursor: &mut Cursor<'_>, limit: u8) -> Result<ExpressionPart, Stop>
     requires { limit ≤ DEEPEST_TREE }
-    ensures { ReadsAs tree_in (read_primary limit) source.now cursor.old result cursor.new }
+    ensures { ReadsAs tree_in (read_primary limit) cursor.old result cursor.new }
 {
     if limit == 0 {
         return Err(Stop::TooDeep);
     }
-    if cursor.accept(&*source, TokenKind::LeftParenthesis) {
-        let inside = expression(&*source, &mut *cursor, limit - 1)?;
-        return close(&*source, &mut *cursor, limit, inside);
+    if cursor.accept(TokenKind::LeftParenthesis) {
+        let inside = expression(&mut *cursor, limit - 1)?;
+        return close(&mut *cursor, limit, inside);
     }
-    simple(&*source, &mut *cursor)
+    simple(&mut *cursor)
 }
 
 /// A factor: a primary, with or without a sign.
 #[cycle(expression)]
-fn factor(source: &Source<'_>, cursor: &mut Cursor, limit: u8) -> Result<ExpressionPart, Stop>
+fn factor(cursor: &mut Cursor<'_>, limit: u8) -> Result<ExpressionPart, Stop>
     requires { limit ≤ DEEPEST_TREE }
-    ensures { ReadsAs tree_in (read_factor limit) source.now cursor.old result cursor.new }
+    ensures { ReadsAs tree_in (read_factor limit) cursor.old result cursor.new }
 {
-    if let Some(sign) = cursor.accept_sign(&*source) {
-        let operand = primary(&*source, &mut *cursor, limit)?;
-        return make_signed(source.alloc(), limit, sign, operand);
+    if let Some(sign) = cursor.accept_sign() {
+        let operand = primary(&mut *cursor, limit)?;
+        return make_signed(cursor.alloc(), limit, sign, operand);
     }
-    primary(&*source, &mut *cursor, limit)
+    primary(&mut *cursor, limit)
 }
 
 /// The product of what was read and of the factors after it, each after an asterisk.
 #[cycle(expression)]
 pub fn factors(
-    source: &Source<'_>,
-    cursor: &mut Cursor,
+    cursor: &mut Cursor<'_>,
     limit: u8,
     most: u8,
     left: ExpressionPart,
 ) -> Result<ExpressionPart, Stop>
     requires low { limit ≤ DEEPEST_TREE }
     requires few { most ≤ DEEPEST_TREE }
-    ensures { ReadsAs tree_in (more_factors limit (read_factor limit) most left.tree) source.now
-        cursor.old result cursor.new }
+    ensures { ReadsAs tree_in (more_factors limit (read_factor limit) most left.tree) cursor.old result cursor.new }
 {
-    if !cursor.accept(&*source, TokenKind::Asterisk) {
+    if !cursor.accept(TokenKind::Asterisk) {
         return Ok(left);
     }
     if most == 0 {
         drop(left);
         return Err(Stop::TooDeep);
     }
-    let right = factor(&*source, &mut *cursor, limit)?;
-    let both = make_product(source.alloc(), limit, left, right)?;
-    factors(&*source, &mut *cursor, limit, most - 1, both)
+    let right = factor(&mut *cursor, limit)?;
+    let both = make_joined(cursor.alloc(), limit, None, left, right)?;
+    factors(&mut *cursor, limit, most - 1, both)
 }
 
 /// A term: factors with asterisks between them.
 #[cycle(expression)]
-fn term(source: &Source<'_>, cursor: &mut Cursor, limit: u8) -> Result<ExpressionPart, Stop>
+fn term(cursor: &mut Cursor<'_>, limit: u8) -> Result<ExpressionPart, Stop>
     requires { limit ≤ DEEPEST_TREE }
-    ensures { ReadsAs tree_in (read_term limit) source.now cursor.old result cursor.new }
+    ensures { ReadsAs tree_in (read_term limit) cursor.old result cursor.new }
 {
-    let left = factor(&*source, &mut *cursor, limit)?;
-    factors(&*source, &mut *cursor, limit, limit, left)
+    let left = factor(&mut *cursor, limit)?;
+    factors(&mut *cursor, limit, limit, left)
 }
 
 /// The sum of what was read and of the terms after it, each with its sign.
 #[cycle(expression)]
 pub fn terms(
-    source: &Source<'_>,
-    cursor: &mut Cursor,
+    cursor: &mut Cursor<'_>,
     limit: u8,
     most: u8,
     left: ExpressionPart,
 ) -> Result<ExpressionPart, Stop>
     requires low { limit ≤ DEEPEST_TREE }
     requires few { most ≤ DEEPEST_TREE }
-    ensures { ReadsAs tree_in (more_terms limit (read_term limit) most left.tree) source.now
-        cursor.old result cursor.new }
+    ensures { ReadsAs tree_in (more_terms limit (read_term limit) most left.tree) cursor.old result cursor.new }
 {
-    let Some(sign) = cursor.accept_sign(&*source) else {
+    let Some(sign) = cursor.accept_sign() else {
         return Ok(left);
     };
     if most == 0 {
         drop(left);
         return Err(Stop::TooDeep);
     }
-    let right = term(&*source, &mut *cursor, limit)?;
-    let both = make_sum(source.alloc(), limit, sign, left, right)?;
-    terms(&*source, &mut *cursor, limit, most - 1, both)
+    let right = term(&mut *cursor, limit)?;
+    let both = make_joined(cursor.alloc(), limit, Some(sign), left, right)?;
+    terms(&mut *cursor, limit, most - 1, both)
 }
 
 /// An expression: terms with signs between them.
 #[cycle(expression)]
-pub fn expression(
-    source: &Source<'_>,
-    cursor: &mut Cursor,
-    limit: u8,
-) -> Result<ExpressionPart, Stop>
+pub fn expression(cursor: &mut Cursor<'_>, limit: u8) -> Result<ExpressionPart, Stop>
     requires { limit ≤ DEEPEST_TREE }
-    ensures { ReadsAs tree_in (read limit) source.now cursor.old result cursor.new }
+    ensures { ReadsAs tree_in (read limit) cursor.old result cursor.new }
 {
-    let left = term(&*source, &mut *cursor, limit)?;
-    terms(&*source, &mut *cursor, limit, limit, left)
+    let left = term(&mut *cursor, limit)?;
+    terms(&mut *cursor, limit, limit, left)
 }
 
 /// A factor, from what follows its sign on.
-pub fn signed_factor(
-    source: &Source<'_>,
-    cursor: &mut Cursor,
-    limit: u8,
-    sign: Sign,
-) -> Result<ExpressionPart, Stop>
+pub fn signed_factor(cursor: &mut Cursor<'_>, limit: u8, sign: Sign) -> Result<ExpressionPart, Stop>
     requires { limit ≤ DEEPEST_TREE }
-    ensures { ReadsAs tree_in (signed_from limit (read_primary limit) sign) source.now cursor.old
+    ensures { ReadsAs tree_in (signed_from limit (read_primary limit) sign) cursor.old
         result cursor.new }
 {
-    let operand = primary(source, cursor, limit)?;
-    make_signed(source.alloc(), limit, sign, operand)
+    let operand = primary(cursor, limit)?;
+    make_signed(cursor.alloc(), limit, sign, operand)
 }
 
 /// The expression at the cursor, as long as it can be.
-pub fn read_expression(source: &Source<'_>, cursor: &mut Cursor) -> Result<Expression, Stop>
-    ensures { Reads (read DEEPEST_TREE) source.now cursor.old result cursor.new }
+pub fn read_expression(cursor: &mut Cursor<'_>) -> Result<Expression, Stop>
+    ensures { Reads (read DEEPEST_TREE) cursor.old result cursor.new }
 {
-    let found = expression(source, cursor, DEEPEST_TREE)?;
-    let (tree, _) = found.into_parts();
+    let (tree, _) = expression(cursor, DEEPEST_TREE)?.into_parts();
     Ok(tree)
 }

@@ -10,30 +10,28 @@ use crate::from_part::FromPart;
 use crate::item_part::ItemPart;
 use crate::make::exists_of;
 use crate::predicate::{fit, truth};
-use crate::source::Source;
 use crate::stop::Stop;
 use iv_lex::TokenKind;
 use iv_syntax::{Name, RangeName};
 use std::alloc::Global;
 
 // An alias, with AS or without, where there is one.
-fn alias(source: &Source<'_>, cursor: &mut Cursor) -> Result<Option<Name>, Stop>
-    ensures { Reads alias_from source.now cursor.old result cursor.new }
+fn alias(cursor: &mut Cursor<'_>) -> Result<Option<Name>, Stop>
+    ensures { Reads alias_from cursor.old result cursor.new }
 {
-    if cursor.accept(source, TokenKind::As) {
-        let alias = cursor.name(source)?;
+    if cursor.accept(TokenKind::As) {
+        let alias = cursor.name()?;
         return Ok(Some(alias));
     }
-    let alias = cursor.accept_name(source)?;
-    Ok(alias)
+    Ok(cursor.accept_name()?)
 }
 
 /// A table and its alias.
-pub fn range(source: &Source<'_>, cursor: &mut Cursor) -> Result<RangeName, Stop>
-    ensures { Reads range_from source.now cursor.old result cursor.new }
+pub fn range(cursor: &mut Cursor<'_>) -> Result<RangeName, Stop>
+    ensures { Reads range_from cursor.old result cursor.new }
 {
-    let table = cursor.name(source)?;
-    let alias = alias(source, cursor)?;
+    let table = cursor.name()?;
+    let alias = alias(cursor)?;
     Ok(RangeName { table, alias })
 }
 
@@ -72,18 +70,10 @@ fn make_exists(alloc: Global, limit: u8, found: FromPart) -> Result<ItemPart, St
 }
 
 /// The EXISTS over this range, where a parenthesis closes.
-pub fn close_exists(
-    source: &Source<'_>,
-    cursor: &mut Cursor,
-    limit: u8,
-    found: FromPart,
-) -> Result<ItemPart, Stop>
-    ensures { ReadsAs item_in (closed_exists limit (found.range, found.condition)) source.now
-        cursor.old result cursor.new }
+pub fn close_exists(cursor: &mut Cursor<'_>, limit: u8, found: FromPart) -> Result<ItemPart, Stop>
+    ensures { ReadsAs item_in (closed_exists limit (found.range, found.condition)) cursor.old result
+        cursor.new }
 {
-    if cursor.accept(source, TokenKind::RightParenthesis) {
-        return make_exists(source.alloc(), limit, found);
-    }
-    drop(found);
-    Err(Stop::NoMatch)
+    let found = cursor.followed(found, TokenKind::RightParenthesis)?;
+    make_exists(cursor.alloc(), limit, found)
 }

@@ -13,14 +13,13 @@ mod item_part;
 mod laws;
 mod make;
 mod predicate;
-mod source;
 mod stop;
 mod wanted;
+mod word;
 
 pub use condition::{read_condition, read_from};
 pub use cursor::Cursor;
 pub use expression::read_expression;
 pub use laws::{condition_laws, expression_laws, from_laws};
-pub use source::Source;
 pub use stop::Stop;
 pub use wanted::{MOST_WANTED, Wanted};

@@ -1,6 +1,7 @@
 //! Trees made of trees.
 ghost use Rattle.std.specs.Prelude.{◌≡◌, IfOk};
-ghost use Rattle.iv_syntax.specs.Trees.{group, signed, product, sum, enclosed, negated, both, either, exists_where};
+ghost use Rattle.iv_syntax.specs.Trees.{group, signed, enclosed, negated};
+ghost use Rattle.iv_parse_terms.specs.readers.Expressions.{joined};
 ghost use Rattle.iv_parse_terms.specs.readers.Conditions.{connection, exists_over};
 
 use crate::item::Connective;
@@ -25,27 +26,21 @@ pub fn signed_of(alloc: Global, sign: Sign, a: Expression) -> Result<Expression,
     Ok(Expression::Signed(sign, Boxed::new(alloc, a)?))
 }
 
-/// The product of two expressions.
-#[tactic(auto, using(iv_syntax::proofs::TreeShapes::product_is))]
-pub fn product_of(alloc: Global, a: Expression, b: Expression) -> Result<Expression, AllocError>
-    ensures { IfOk result (λ e. e ≡ product a b) }
-{
-    let (a, b) = boxes(alloc, a, b)?;
-    Ok(Expression::Product(a, b))
-}
+/// The product of two expressions, or their sum or difference where there is a sign.
 
-/// The sum or the difference of two expressions.
-#[tactic(auto, using(iv_syntax::proofs::TreeShapes::sum_is))]
-pub fn sum_of(
+pub fn joined_of(
     alloc: Global,
-    sign: Sign,
+    sign: Option<Sign>,
     a: Expression,
     b: Expression,
 ) -> Result<Expression, AllocError>
-    ensures { IfOk result (λ e. e ≡ sum sign a b) }
+    ensures { IfOk result (λ e. e ≡ joined sign a b) }
 {
     let (a, b) = boxes(alloc, a, b)?;
-    Ok(Expression::Sum(sign, a, b))
+    match sign {
+        Some(sign) => Ok(Expression::Sum(sign, a, b)),
+        None => Ok(Expression::Product(a, b)),
+    }
 }
 
 /// The condition in parentheses.
@@ -64,23 +59,8 @@ pub fn negated_of(alloc: Global, a: Condition) -> Result<Condition, AllocError>
     Ok(Condition::Not(Boxed::new(alloc, a)?))
 }
 
-#[tactic(auto, using(iv_syntax::proofs::TreeShapes::both_is))]
-fn both_of(alloc: Global, a: Condition, b: Condition) -> Result<Condition, AllocError>
-    ensures { IfOk result (λ c. c ≡ both a b) }
-{
-    let (a, b) = boxes(alloc, a, b)?;
-    Ok(Condition::And(a, b))
-}
-
-#[tactic(auto, using(iv_syntax::proofs::TreeShapes::either_is))]
-fn either_of(alloc: Global, a: Condition, b: Condition) -> Result<Condition, AllocError>
-    ensures { IfOk result (λ c. c ≡ either a b) }
-{
-    let (a, b) = boxes(alloc, a, b)?;
-    Ok(Condition::Or(a, b))
-}
-
 /// Two conditions with AND or OR between them.
+
 pub fn connected_of(
     alloc: Global,
     connective: Connective,
@@ -89,9 +69,10 @@ pub fn connected_of(
 ) -> Result<Condition, AllocError>
     ensures { IfOk result (λ c. c ≡ connection connective a b) }
 {
+    let (a, b) = boxes(alloc, a, b)?;
     match connective {
-        Connective::And => both_of(alloc, a, b),
-        Connective::Or => either_of(alloc, a, b),
+        Connective::And => Ok(Condition::And(a, b)),
+        Connective::Or => Ok(Condition::Or(a, b)),
     }
 }
 

@@ -2,7 +2,7 @@
 ghost use Rattle.std.specs.Prelude.{◌≡◌, ◌+◌, ◌≤◌, None};
 ghost use Rattle.iv_parse_terms.specs.declared.item.Item.TheVariants.{Value};
 ghost use Rattle.iv_syntax.specs.Trees.{condition_depth};
-ghost use Rattle.iv_parse_terms.specs.readers.Conditions.{condition_fits, on_value, enclose as enclosed_item, close_item as closed_item, not_null, is_null, null_test, comparison_from, predicate_from, value_test, negate as negated_item, after_truth, connection, connection_from, truth_alone};
+ghost use Rattle.iv_parse_terms.specs.readers.Conditions.{condition_fits, on_value, enclose as enclosed_item, close_item as closed_item, null_test, comparison_from, predicate_from, value_test, negate as negated_item, after_truth, connection_from, truth_alone};
 ghost use Rattle.iv_parse_terms.specs.Reading.{MakesAs, ReadsAs, Tries};
 ghost use Rattle.iv_parse_terms.specs.SeenItem.{condition_in, item_in};
 
@@ -13,7 +13,6 @@ use crate::expression_part::ExpressionPart;
 use crate::item::{Connective, Item};
 use crate::item_part::ItemPart;
 use crate::make::{connected_of, enclosed_of, negated_of};
-use crate::source::Source;
 use crate::stop::Stop;
 use iv_expr::Comparison;
 use iv_lex::TokenKind;
@@ -63,85 +62,36 @@ fn enclose(alloc: Global, limit: u8, inside: ItemPart) -> Result<ItemPart, Stop>
 }
 
 /// The item in parentheses, where one closes.
-pub fn close_item(
-    source: &Source<'_>,
-    cursor: &mut Cursor,
-    limit: u8,
-    inside: ItemPart,
-) -> Result<ItemPart, Stop>
-    ensures { ReadsAs item_in (closed_item limit inside.item) source.now cursor.old result
-        cursor.new }
+pub fn close_item(cursor: &mut Cursor<'_>, limit: u8, inside: ItemPart) -> Result<ItemPart, Stop>
+    ensures { ReadsAs item_in (closed_item limit inside.item) cursor.old result cursor.new }
 {
-    if cursor.accept(source, TokenKind::RightParenthesis) {
-        return enclose(source.alloc(), limit, inside);
-    }
-    drop(inside);
-    Err(Stop::NoMatch)
-}
-
-// IS NOT NULL, from NULL on.
-fn test_not_null(
-    source: &Source<'_>,
-    cursor: &mut Cursor,
-    limit: u8,
-    value: ExpressionPart,
-) -> Result<ItemPart, Stop>
-    ensures { ReadsAs item_in (not_null limit value.tree) source.now cursor.old result
-        cursor.new }
-{
-    let (tree, depth) = value.into_parts();
-    if cursor.accept(source, TokenKind::Null) {
-        return fit(limit, Condition::IsNotNull(tree), depth);
-    }
-    drop(tree);
-    Err(Stop::NoMatch)
-}
-
-// IS NULL, from NULL on.
-fn test_is_null(
-    source: &Source<'_>,
-    cursor: &mut Cursor,
-    limit: u8,
-    value: ExpressionPart,
-) -> Result<ItemPart, Stop>
-    ensures { ReadsAs item_in (is_null limit value.tree) source.now cursor.old result cursor.new }
-{
-    let (tree, depth) = value.into_parts();
-    if cursor.accept(source, TokenKind::Null) {
-        return fit(limit, Condition::IsNull(tree), depth);
-    }
-    drop(tree);
-    Err(Stop::NoMatch)
+    let inside = cursor.followed(inside, TokenKind::RightParenthesis)?;
+    enclose(cursor.alloc(), limit, inside)
 }
 
 // IS [NOT] NULL, from what follows IS on.
-fn test_null(
-    source: &Source<'_>,
-    cursor: &mut Cursor,
-    limit: u8,
-    value: ExpressionPart,
-) -> Result<ItemPart, Stop>
-    ensures { ReadsAs item_in (null_test limit value.tree) source.now cursor.old result
-        cursor.new }
+fn test_null(cursor: &mut Cursor<'_>, limit: u8, value: ExpressionPart) -> Result<ItemPart, Stop>
+    ensures { ReadsAs item_in (null_test limit value.tree) cursor.old result cursor.new }
 {
-    if cursor.accept(source, TokenKind::Not) {
-        return test_not_null(source, cursor, limit, value);
+    if cursor.accept(TokenKind::Not) {
+        let (tree, depth) = cursor.followed(value, TokenKind::Null)?.into_parts();
+        return fit(limit, Condition::IsNotNull(tree), depth);
     }
-    test_is_null(source, cursor, limit, value)
+    let (tree, depth) = cursor.followed(value, TokenKind::Null)?.into_parts();
+    fit(limit, Condition::IsNull(tree), depth)
 }
 
 fn compare(
-    source: &Source<'_>,
-    cursor: &mut Cursor,
+    cursor: &mut Cursor<'_>,
     limit: u8,
     by: Comparison,
     left: ExpressionPart,
 ) -> Result<ItemPart, Stop>
     requires { limit ≤ DEEPEST_TREE }
-    ensures { ReadsAs item_in (comparison_from limit by left.tree) source.now cursor.old result
+    ensures { ReadsAs item_in (comparison_from limit by left.tree) cursor.old result
         cursor.new }
 {
-    let right = expression(source, cursor, limit)?;
+    let right = expression(cursor, limit)?;
     let (left, first) = left.into_parts();
     let (right, second) = right.into_parts();
     let below = first.max(second);
@@ -149,55 +99,40 @@ fn compare(
 }
 
 // The predicate that begins with this value, or the value alone.
-fn test_whole(
-    source: &Source<'_>,
-    cursor: &mut Cursor,
-    limit: u8,
-    value: ExpressionPart,
-) -> Result<ItemPart, Stop>
+fn test_whole(cursor: &mut Cursor<'_>, limit: u8, value: ExpressionPart) -> Result<ItemPart, Stop>
     requires { limit ≤ DEEPEST_TREE }
-    ensures { ReadsAs item_in (predicate_from limit value.tree) source.now cursor.old result
+    ensures { ReadsAs item_in (predicate_from limit value.tree) cursor.old result
         cursor.new }
 {
-    if let Some(by) = cursor.accept_comparison(source) {
-        return compare(source, cursor, limit, by, value);
+    if let Some(by) = cursor.accept_comparison() {
+        return compare(cursor, limit, by, value);
     }
-    if cursor.accept(source, TokenKind::Is) {
-        return test_null(source, cursor, limit, value);
+    if cursor.accept(TokenKind::Is) {
+        return test_null(cursor, limit, value);
     }
     Ok(value_item(value))
 }
 
 // The test that begins with this factor, or the value alone.
-fn test_value(
-    source: &Source<'_>,
-    cursor: &mut Cursor,
-    limit: u8,
-    value: ExpressionPart,
-) -> Result<ItemPart, Stop>
+fn test_value(cursor: &mut Cursor<'_>, limit: u8, value: ExpressionPart) -> Result<ItemPart, Stop>
     requires { limit ≤ DEEPEST_TREE }
-    ensures { ReadsAs item_in (value_test limit value.tree) source.now cursor.old result
+    ensures { ReadsAs item_in (value_test limit value.tree) cursor.old result
         cursor.new }
 {
-    let term = factors(source, cursor, limit, limit, value)?;
-    let whole = terms(source, cursor, limit, limit, term)?;
-    test_whole(source, cursor, limit, whole)
+    let term = factors(cursor, limit, limit, value)?;
+    let whole = terms(cursor, limit, limit, term)?;
+    test_whole(cursor, limit, whole)
 }
 
 /// A value goes on to its test; a condition stays as it is.
-pub fn go_on(
-    source: &Source<'_>,
-    cursor: &mut Cursor,
-    limit: u8,
-    found: ItemPart,
-) -> Result<ItemPart, Stop>
+pub fn go_on(cursor: &mut Cursor<'_>, limit: u8, found: ItemPart) -> Result<ItemPart, Stop>
     requires { limit ≤ DEEPEST_TREE }
-    ensures { ReadsAs item_in (on_value (value_test limit) found.item) source.now cursor.old
+    ensures { ReadsAs item_in (on_value (value_test limit) found.item) cursor.old
         result cursor.new }
 {
     let (item, depth) = found.into_parts();
     match item {
-        Item::Value(tree) => test_value(source, cursor, limit, ExpressionPart { tree, depth }),
+        Item::Value(tree) => test_value(cursor, limit, ExpressionPart { tree, depth }),
         Item::Truth(tree) => Ok(ItemPart {
             item: Item::Truth(tree),
             depth,
@@ -223,18 +158,13 @@ pub fn negate(alloc: Global, limit: u8, found: ItemPart) -> Result<ItemPart, Sto
 }
 
 /// Goes past AND or OR, where it comes after a condition.
-pub fn accept_connective(
-    source: &Source<'_>,
-    cursor: &mut Cursor,
-    connective: Connective,
-    found: &ItemPart,
-) -> bool
-    ensures { Tries (after_truth connective found.now.item) source.now cursor.old result
+pub fn accept_connective(cursor: &mut Cursor<'_>, connective: Connective, found: &ItemPart) -> bool
+    ensures { Tries (after_truth connective found.now.item) cursor.old result
         cursor.new }
 {
     match (&found.item, connective) {
-        (Item::Truth(_), Connective::And) => cursor.accept(source, TokenKind::And),
-        (Item::Truth(_), Connective::Or) => cursor.accept(source, TokenKind::Or),
+        (Item::Truth(_), Connective::And) => cursor.accept(TokenKind::And),
+        (Item::Truth(_), Connective::Or) => cursor.accept(TokenKind::Or),
         (Item::Value(_), _) => false,
     }
 }
@@ -253,23 +183,6 @@ pub fn truth(found: ItemPart) -> Result<ConditionPart, Stop>
     }
 }
 
-fn connect(
-    alloc: Global,
-    limit: u8,
-    connective: Connective,
-    left: ConditionPart,
-    right: ConditionPart,
-) -> Result<ItemPart, Stop>
-    ensures { MakesAs item_in (condition_fits limit (connection connective left.tree right.tree))
-        result }
-{
-    let (left, first) = left.into_parts();
-    let (right, second) = right.into_parts();
-    let below = first.max(second);
-    let tree = connected_of(alloc, connective, left, right)?;
-    fit(limit, tree, below)
-}
-
 /// Two conditions with AND or OR between them.
 pub fn join(
     alloc: Global,
@@ -282,5 +195,9 @@ pub fn join(
 {
     let left = truth(left)?;
     let right = truth(right)?;
-    connect(alloc, limit, connective, left, right)
+    let (left, first) = left.into_parts();
+    let (right, second) = right.into_parts();
+    let below = first.max(second);
+    let tree = connected_of(alloc, connective, left, right)?;
+    fit(limit, tree, below)
 }

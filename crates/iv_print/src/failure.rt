@@ -1,8 +1,10 @@
 //! The line of what failed where a number is out of range or a text is too long.
-ghost use Rattle.std.specs.Prelude.{◌≡◌, slice_get};
+ghost use Rattle.std.specs.Prelude.{◌≡◌, ◌++◌, codes, decimal, slice_get};
 ghost use Rattle.std.specs.Option.{option_copied};
 ghost use Rattle.std.specs.Fmt.{signed_decimal};
 ghost use Rattle.iv_account.specs.declared.failure.EvaluatedFor.TheVariants as part;
+ghost use Rattle.iv_account.specs.declared.failure.ValueFailure.TheVariants as failure;
+ghost use Rattle.iv_print.specs.Lines.{trigger_text};
 ghost use Rattle.iv_print.specs.Writing.{Writes};
 ghost use Rattle.iv_print.specs.AccountLines.{column_name, column_name_in, evaluated_text, failure_line, failure_text, operator_text, part_in_table, part_name};
 
@@ -12,7 +14,7 @@ use crate::outcome::write_trigger;
 use crate::write::{write_all, write_number};
 use itoa::Buffer;
 use iv_account::{EvaluatedFor, FailedEvaluation, Operator, RowAtHand, ValueFailure};
-use iv_catalogue::{Catalogue, Column, Table};
+use iv_catalogue::{Catalogue, Column, Table, TriggerId};
 use iv_expr::TableId;
 
 fn write_column<W: Sink>(sink: &mut W, columns: &[Column], column: u64) -> Result<(), DeviceFault>
@@ -40,6 +42,20 @@ fn write_column_at<W: Sink>(
     }
 }
 
+// A trigger after these words.
+fn write_trigger_after<W: Sink>(
+    sink: &mut W,
+    words: &[u8],
+    catalogue: &Catalogue,
+    id: TriggerId,
+) -> Result<(), DeviceFault>
+    ensures { Writes (W.state sink.old) (W.state sink.new) result
+        (words.now ++ trigger_text catalogue.now id) }
+{
+    write_all(sink, words)?;
+    write_trigger(sink, catalogue, id)
+}
+
 // The column, the item of a SELECT or the condition that was evaluated.
 fn write_part<W: Sink>(
     sink: &mut W,
@@ -57,10 +73,7 @@ fn write_part<W: Sink>(
             write_number(sink, place)
         }
         EvaluatedFor::Where => write_all(sink, b"WHERE"),
-        EvaluatedFor::When(id) => {
-            write_all(sink, b"WHEN of trigger")?;
-            write_trigger(sink, catalogue, id)
-        }
+        EvaluatedFor::When(id) => write_trigger_after(sink, b"WHEN of trigger", catalogue, id),
     }
 }
 
@@ -144,6 +157,75 @@ fn write_integer<W: Sink>(sink: &mut W, number: i64) -> Result<(), DeviceFault>
     write_all(sink, buffer.format(number).as_bytes())
 }
 
+fn write_operator<W: Sink>(sink: &mut W, operator: Operator) -> Result<(), DeviceFault>
+    ensures { Writes (W.state sink.old) (W.state sink.new) result (operator_text operator) }
+{
+    write_all(sink, operator_text(operator).as_bytes())
+}
+
+// A number, and what comes after it.
+fn write_integer_then<W: Sink>(sink: &mut W, number: i64, after: &[u8]) -> Result<(), DeviceFault>
+    ensures { Writes (W.state sink.old) (W.state sink.new) result
+        (signed_decimal number ++ after.now) }
+{
+    write_integer(sink, number)?;
+    write_all(sink, after)
+}
+
+// The operator and the right number.
+fn write_right<W: Sink>(sink: &mut W, operator: Operator, right: i64) -> Result<(), DeviceFault>
+    ensures { Writes (W.state sink.old) (W.state sink.new) result
+        (operator_text operator ++ (signed_decimal right ++ codes " is out of range")) }
+{
+    write_operator(sink, operator)?;
+    write_integer_then(sink, right, b" is out of range")
+}
+
+fn write_out_of_range<W: Sink>(
+    sink: &mut W,
+    left: i64,
+    operator: Operator,
+    right: i64,
+) -> Result<(), DeviceFault>
+    ensures { Writes (W.state sink.old) (W.state sink.new) result
+        (failure_text (failure.OutOfRange left operator right)) }
+{
+    write_all(sink, b": ")?;
+    write_integer(sink, left)?;
+    write_right(sink, operator, right)
+}
+
+// A number between these words.
+fn write_between<W: Sink>(
+    sink: &mut W,
+    before: &[u8],
+    number: u64,
+    after: &[u8],
+) -> Result<(), DeviceFault>
+    ensures { Writes (W.state sink.old) (W.state sink.new) result
+        (before.now ++ (decimal number ++ after.now)) }
+{
+    write_all(sink, before)?;
+    write_number(sink, number)?;
+    write_all(sink, after)
+}
+
+// Two numbers between these words.
+fn write_lengths<W: Sink>(
+    sink: &mut W,
+    before: &[u8],
+    most: u64,
+    between: &[u8],
+    length: u64,
+) -> Result<(), DeviceFault>
+    ensures { Writes (W.state sink.old) (W.state sink.new) result
+        ((before.now ++ (decimal most ++ between.now)) ++ (decimal length ++ codes " characters")) }
+{
+    write_between(sink, before, most, between)?;
+    write_number(sink, length)?;
+    write_all(sink, b" characters")
+}
+
 // What failed.
 fn write_value_failure<W: Sink>(sink: &mut W, failure: ValueFailure) -> Result<(), DeviceFault>
     ensures { Writes (W.state sink.old) (W.state sink.new) result (failure_text failure) }
@@ -153,20 +235,14 @@ fn write_value_failure<W: Sink>(sink: &mut W, failure: ValueFailure) -> Result<(
             left,
             operator,
             right,
-        } => {
-            write_all(sink, b": ")?;
-            write_integer(sink, left)?;
-            write_all(sink, operator_text(operator).as_bytes())?;
-            write_integer(sink, right)?;
-            write_all(sink, b" is out of range")
-        }
-        ValueFailure::TooLong { most, length } => {
-            write_all(sink, b" is VARCHAR(")?;
-            write_number(sink, u64::from(most))?;
-            write_all(sink, b"), and the text has ")?;
-            write_number(sink, length)?;
-            write_all(sink, b" characters")
-        }
+        } => write_out_of_range(sink, left, operator, right),
+        ValueFailure::TooLong { most, length } => write_lengths(
+            sink,
+            b" is VARCHAR(",
+            u64::from(most),
+            b"), and the text has ",
+            length,
+        ),
     }
 }
 

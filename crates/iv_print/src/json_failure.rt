@@ -4,10 +4,11 @@ ghost use Rattle.std.specs.Option.{option_copied};
 ghost use Rattle.std.specs.Fmt.{signed_decimal};
 ghost use Rattle.iv_account.specs.declared.failure.EvaluatedFor.TheVariants as part;
 ghost use Rattle.iv_account.specs.declared.failure.RowAtHand.TheVariants as hand;
+ghost use Rattle.iv_account.specs.declared.failure.ValueFailure.TheVariants as failure;
 ghost use Rattle.iv_print.specs.Writing.{Writes};
 ghost use Rattle.iv_print.specs.AccountLines.{column_name, column_name_in};
 ghost use Rattle.iv_print.specs.Json.{json_text};
-ghost use Rattle.iv_print.specs.JsonAccounts.{failure_entry, failure_members, hand_members, operator_sign, part_members, stored_members};
+ghost use Rattle.iv_print.specs.JsonAccounts.{failure_entry, failure_members, hand_members, integer_member, operator_member, operator_sign, part_members, stored_members};
 
 use crate::device::{DeviceFault, Sink};
 use crate::json::{
@@ -151,6 +152,34 @@ fn write_integer<W: Sink>(sink: &mut W, number: i64) -> Result<(), DeviceFault>
     write_all(sink, buffer.format(number).as_bytes())
 }
 
+fn write_integer_member<W: Sink>(sink: &mut W, name: &[u8], number: i64) -> Result<(), DeviceFault>
+    ensures { Writes (W.state sink.old) (W.state sink.new) result (integer_member name.now number) }
+{
+    write_member(sink, name)?;
+    write_integer(sink, number)
+}
+
+fn write_operator<W: Sink>(sink: &mut W, operator: Operator) -> Result<(), DeviceFault>
+    ensures { Writes (W.state sink.old) (W.state sink.new) result (operator_member operator) }
+{
+    write_text_member(sink, b"operator", operator_sign(operator).as_bytes())
+}
+
+fn write_out_of_range<W: Sink>(
+    sink: &mut W,
+    left: i64,
+    operator: Operator,
+    right: i64,
+) -> Result<(), DeviceFault>
+    ensures { Writes (W.state sink.old) (W.state sink.new) result
+        (failure_members (failure.OutOfRange left operator right)) }
+{
+    write_because(sink, b"out_of_range")?;
+    write_integer_member(sink, b"left", left)?;
+    write_operator(sink, operator)?;
+    write_integer_member(sink, b"right", right)
+}
+
 // What failed.
 fn write_value_failure<W: Sink>(sink: &mut W, failure: ValueFailure) -> Result<(), DeviceFault>
     ensures { Writes (W.state sink.old) (W.state sink.new) result (failure_members failure) }
@@ -160,14 +189,7 @@ fn write_value_failure<W: Sink>(sink: &mut W, failure: ValueFailure) -> Result<(
             left,
             operator,
             right,
-        } => {
-            write_because(sink, b"out_of_range")?;
-            write_member(sink, b"left")?;
-            write_integer(sink, left)?;
-            write_text_member(sink, b"operator", operator_sign(operator).as_bytes())?;
-            write_member(sink, b"right")?;
-            write_integer(sink, right)
-        }
+        } => write_out_of_range(sink, left, operator, right),
         ValueFailure::TooLong { most, length } => {
             write_because(sink, b"too_long")?;
             write_number_member(sink, b"most", u64::from(most))?;

@@ -13,7 +13,7 @@ use Rattle.iv_syntax.specs.declared.limits.TheConstants.{DEEPEST_TREE}
 use Rattle.iv_parse_terms.specs.After.{after, after_name, if_some, then_read}
 use Rattle.iv_parse_terms.specs.readers.Expressions.{read_expression}
 use Rattle.iv_parse_terms.specs.readers.Conditions.{read_condition, read_from}
-use Rattle.iv_parse_data.specs.readers.Series.{read_series, read_closed, read_enclosed}
+use Rattle.iv_parse_data.specs.readers.Series.{give, read_as, read_optional, read_series, read_closed, read_enclosed}
 
 -- what was found, and the words after it
 abbrev pub FoundPart : Type 0 → Type 0
@@ -32,103 +32,58 @@ read_shallow = read_expression DEEPEST_TREE
 unfoldable pub read_shallow_condition : List Word → FoundPart Condition
 read_shallow_condition = read_condition DEEPEST_TREE
 
-abbrev pub read_closed_check : List Word → FoundPart Condition
-read_closed_check = read_closed read_shallow_condition
-
--- ( condition )
-unfoldable pub read_check : List Word → FoundPart Condition
-read_check ws = then_word kind.LeftParenthesis ws read_closed_check
+abbrev pub read_check : List Word → FoundPart Condition
+read_check = read_enclosed read_shallow_condition
 
 unfoldable pub read_value : List Word → FoundPart ValueOrDefault
-read_value ws =
-    if_some (after kind.Default ws) (λ rest. Some (Default, rest))
-    (then_read (read_shallow ws) (λ e rest. Some (Value e, rest)))
+read_value ws = if_some (after kind.Default ws) (give Default) (read_as Value read_shallow ws)
 
-unfoldable pub read_tuple : List Word → FoundPart (List ValueOrDefault)
+abbrev pub read_tuple : List Word → FoundPart (List ValueOrDefault)
 read_tuple = read_enclosed (read_series read_value)
 
 unfoldable pub read_column_list : List Word → FoundPart (Option (List (List ℕ)))
-read_column_list ws =
-    if_some (after kind.LeftParenthesis ws) (λ rest. then_read (read_closed (read_series read_name) rest) (λ ns more. Some (Some ns, more)))
-    (Some (None, ws))
+read_column_list ws = if_some (after kind.LeftParenthesis ws) (read_as Some (read_closed (read_series read_name))) (Some (None, ws))
 
 unfoldable pub read_shallow_from : List Word → FoundPart (RangeName × Option Condition)
 read_shallow_from = read_from DEEPEST_TREE
 
 unfoldable pub read_select_list : List Word → FoundPart SelectList
-read_select_list ws =
-    if_some (after kind.Asterisk ws) (λ rest. Some (select_list.Star, rest))
-    (then_read (read_series read_shallow ws) (λ es rest. Some (select_list.Values es, rest)))
+read_select_list ws = if_some (after kind.Asterisk ws) (give select_list.Star) (read_as select_list.Values (read_series read_shallow) ws)
 
--- after SELECT
-unfoldable pub read_select_source : List Word → FoundPart InsertSource
-read_select_source ws =
-    then_read (read_select_list ws) (λ l rest. then_read (read_shallow_from rest) (λ p more. Some (source.Select l p.0 p.1, more)))
-
-abbrev pub read_query_source : List Word → FoundPart InsertSource
-read_query_source ws = then_word kind.Select ws read_select_source
-
+-- VALUES and tuples, or a SELECT
 unfoldable pub read_source : List Word → FoundPart InsertSource
 read_source ws =
-    if_some (after kind.Values ws) (λ rest. then_read (read_series read_tuple rest) (λ ts more. Some (source.Values ts, more)))
-    (read_query_source ws)
-
-unfoldable pub read_insert_rows : List ℕ → List Word → FoundPart Insert
-read_insert_rows t ws =
-    then_read (read_column_list ws) (λ cs rest. then_read (read_source rest) (λ s more. Some (Rows t cs s, more)))
-
--- after DEFAULT
-abbrev pub read_default_values : List ℕ → List Word → FoundPart Insert
-read_default_values t ws = then_word kind.Values ws (λ more. Some (DefaultValues t, more))
-
-unfoldable pub read_insert_into : List ℕ → List Word → FoundPart Insert
-read_insert_into t ws =
-    if_some (after kind.Default ws) (read_default_values t) (read_insert_rows t ws)
+    if_some (after kind.Values ws) (read_as source.Values (read_series read_tuple))
+    (then_word kind.Select ws (λ a. then_read (read_select_list a) (λ l. read_as (λ p. source.Select l p.0 p.1) read_shallow_from)))
 
 -- INSERT, from INTO on
 unfoldable pub read_insert : List Word → FoundPart Insert
-read_insert ws = then_word kind.Into ws (λ rest. then_read (read_name rest) read_insert_into)
-
--- after the column
-abbrev pub read_assigned : List ℕ → List Word → FoundPart Assignment
-read_assigned n ws = then_word kind.Equals ws (λ more. then_read (read_value more) (λ v left. Some (record { column = n; value = v }, left)))
+read_insert ws =
+    then_word kind.Into ws (λ a. then_read (read_name a) (λ t b.
+    if_some (after kind.Default b) (λ c. then_word kind.Values c (give (DefaultValues t)))
+    (then_read (read_column_list b) (λ cs. read_as (Rows t cs) read_source))))
 
 unfoldable pub read_assignment : List Word → FoundPart Assignment
-read_assignment ws = then_read (read_name ws) read_assigned
+read_assignment ws =
+    then_read (read_name ws) (λ n a. then_word kind.Equals a (read_as (λ v. record { column = n; value = v }) read_value))
 
-unfoldable pub read_where : List Word → FoundPart (Option Condition)
-read_where ws = if_some (after kind.Where ws) (λ rest. then_read (read_shallow_condition rest) (λ c more. Some (Some c, more))) (Some (None, ws))
-
-unfoldable pub read_assignments : List ℕ → List Word → FoundPart Update
-read_assignments t ws =
-    then_read (read_series read_assignment ws) (λ list rest. then_read (read_where rest) (λ c more. Some (record { table = t; assignments = list; filter = c }, more)))
+abbrev pub read_where : List Word → FoundPart (Option Condition)
+read_where = read_optional kind.Where read_shallow_condition
 
 -- UPDATE, from the table on
 unfoldable pub read_update : List Word → FoundPart Update
-read_update ws = then_read (read_name ws) (λ t rest. then_word kind.Set rest (read_assignments t))
+read_update ws =
+    then_read (read_name ws) (λ t a. then_word kind.Set a (λ b. then_read (read_series read_assignment b) (λ list.
+    read_as (λ c. record { table = t; assignments = list; filter = c }) read_where)))
 
--- DELETE, from the table on, and from FROM on
-abbrev pub read_delete_from : List Word → FoundPart Delete
-read_delete_from ws = then_read (read_name ws) (λ t more. then_read (read_where more) (λ c left. Some (record { table = t; filter = c }, left)))
-
+-- DELETE, from FROM on
 unfoldable pub read_delete : List Word → FoundPart Delete
-read_delete ws = then_word kind.From ws read_delete_from
-
--- after COUNT ( *, and after COUNT (
-abbrev pub read_counted : List Word → FoundPart Select
-read_counted ws = then_word kind.RightParenthesis ws (λ rest. then_read (read_shallow_from rest) (λ p more. Some (select.Count p.0 p.1, more)))
-
-abbrev pub read_star : List Word → FoundPart Select
-read_star ws = then_word kind.Asterisk ws read_counted
-
--- after COUNT
-unfoldable pub read_count : List Word → FoundPart Select
-read_count ws = then_word kind.LeftParenthesis ws read_star
-
-unfoldable pub read_query : List Word → FoundPart Select
-read_query ws =
-    then_read (read_select_list ws) (λ l rest. then_read (read_shallow_from rest) (λ p more. Some (select.Rows l p.0 p.1, more)))
+read_delete ws = then_word kind.From ws (λ a. then_read (read_name a) (λ t. read_as (λ c. record { table = t; filter = c }) read_where))
 
 -- after SELECT
 unfoldable pub read_select : List Word → FoundPart Select
-read_select ws = if_some (after kind.Count ws) read_count (read_query ws)
+read_select ws =
+    if_some (after kind.Count ws)
+    (λ a. then_word kind.LeftParenthesis a (λ b. then_word kind.Asterisk b (λ c. then_word kind.RightParenthesis c
+    (read_as (λ p. select.Count p.0 p.1) read_shallow_from))))
+    (then_read (read_select_list ws) (λ l. read_as (λ p. select.Rows l p.0 p.1) read_shallow_from))

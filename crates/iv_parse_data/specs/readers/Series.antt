@@ -5,6 +5,17 @@ use Rattle.iv_lex.specs.declared.kind.TokenKind.TheVariants as kind
 use Rattle.iv_lex.specs.Words.{Word}
 use Rattle.iv_parse_terms.specs.After.{after, if_some, then_read}
 
+abbrev pub give : {A : Type 0} → A → List Word → Option (A × List Word)
+give a ws = Some (a, ws)
+
+-- what is made of a part
+abbrev pub read_as : {A B : Type 0} → (A → B) → (List Word → Option (A × List Word)) → List Word → Option (B × List Word)
+read_as make part ws = then_read (part ws) (λ a. give (make a))
+
+-- the part after this word, where the word is written
+unfoldable pub read_optional : {A : Type 0} → TokenKind → (List Word → Option (A × List Word)) → List Word → Option (Option A × List Word)
+read_optional k part ws = if_some (after k ws) (read_as Some part) (Some (None, ws))
+
 module _ {A : Type 0} where
   abbrev pub with_first : A → List A → List Word → Option (List A × List Word)
   with_first a bs ws = Some (a ∷ bs, ws)
@@ -18,7 +29,7 @@ module _ {A : Type 0} where
       (Some ([], ws))
 
   -- the series at the front; there are fewer commas than words
-  abbrev pub read_series : (List Word → Option (A × List Word)) → List Word → Option (List A × List Word)
+  unfoldable pub read_series : (List Word → Option (A × List Word)) → List Word → Option (List A × List Word)
   read_series part ws = then_read (part ws) (λ a rest. then_read (read_more part (length rest) rest) (with_first a))
 
   abbrev pub close : A → List Word → Option (A × List Word)
@@ -28,7 +39,7 @@ module _ {A : Type 0} where
   abbrev pub read_closed : (List Word → Option (A × List Word)) → List Word → Option (A × List Word)
   read_closed part ws = then_read (part ws) close
 
-  abbrev pub read_enclosed : (List Word → Option (A × List Word)) → List Word → Option (A × List Word)
+  unfoldable pub read_enclosed : (List Word → Option (A × List Word)) → List Word → Option (A × List Word)
   read_enclosed part ws = if_some (after kind.LeftParenthesis ws) (read_closed part) None
 
   -- the parts at the front, of which there are at most so many, up to where none begins
@@ -38,7 +49,7 @@ module _ {A : Type 0} where
       then_read (part ws) (λ o rest. if_some o (λ a. then_read (read_sequence part n rest) (with_first a)) (Some ([], ws)))
 
   -- the parts at the front, up to where none begins
-  abbrev pub read_all : (List Word → Option (Option A × List Word)) → List Word → Option (List A × List Word)
+  unfoldable pub read_all : (List Word → Option (Option A × List Word)) → List Word → Option (List A × List Word)
   read_all part ws = read_sequence part (length ws) ws
 
 module _ {A B : Type 0} where

@@ -50,16 +50,11 @@ after_comparison (plain kind.Greater ∷ ws) = Some (comparison.Greater, ws)
 after_comparison (plain kind.GreaterEquals ∷ ws) = Some (comparison.GreaterEqual, ws)
 after_comparison _ = None
 
--- after IS NOT, and after IS
-abbrev pub not_null : ℕ → Expression → List Word → FoundItem
-not_null limit a ws = if_some (after kind.Null ws) (condition_fits limit (IsNotNull a)) None
-
-abbrev pub is_null : ℕ → Expression → List Word → FoundItem
-is_null limit a ws = if_some (after kind.Null ws) (condition_fits limit (IsNull a)) None
-
 -- after IS: [NOT] NULL
 abbrev pub null_test : ℕ → Expression → List Word → FoundItem
-null_test limit a ws = if_some (after kind.Not ws) (not_null limit a) (is_null limit a ws)
+null_test limit a ws =
+    if_some (after kind.Not ws) (λ b. if_some (after kind.Null b) (condition_fits limit (IsNotNull a)) None)
+    (if_some (after kind.Null ws) (condition_fits limit (IsNull a)) None)
 
 abbrev pub comparison_from : ℕ → Comparison → Expression → List Word → FoundItem
 comparison_from limit o a ws =

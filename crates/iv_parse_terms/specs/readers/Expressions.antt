@@ -16,6 +16,11 @@ FoundExpression = Option (Expression × List Word)
 abbrev pub fits : ℕ → Expression → List Word → FoundExpression
 fits limit e ws = if nat_le (depth e) limit then Some (e, ws) else None
 
+-- the product of two expressions, or their sum or difference where there is a sign
+abbrev pub joined : Option Sign → Expression → Expression → Expression
+joined None a b = product a b
+joined (Some s) a b = sum s a b
+
 -- a sign at the front, and the words after it
 abbrev pub after_sign : List Word → Option (Sign × List Word)
 after_sign ws =

@@ -4,7 +4,7 @@ use Rattle.iv_parse_data.proofs.Loops.{Amid}
 use Rattle.iv_parse.proofs.action.actions.Given as goal
 
 abbrev pub invariant-loop-items : goal.invariant-loop-items
-invariant-loop-items l = Amid read_ended_action l.source l.fn.cursor l.items l.cursor
+invariant-loop-items l = Amid read_ended_action l.fn.cursor l.items l.cursor
 
 abbrev pub decreases-loop-items : goal.decreases-loop-items
-decreases-loop-items l = length l.source - l.cursor.place
+decreases-loop-items l = length l.cursor.words - l.cursor.place

@@ -9,20 +9,18 @@ use Rattle.iv_parse_data.proofs.characteristics.deferrable.Goals as goal
 
 pub returns-then-accept_both : goal.returns-then-accept_both
 returns-then-accept_both c =
-    let all = c.args.source.now in
     let middle = c.accept.new.self in
     let end = c.accept_both.new.self in
-    by_rule (λ x. x) read_deferrable (λ ws. if_some (after kind.Deferrable ws) (deferrable_found true) (not_deferrable ws)) all c.args.cursor.now end (Ok (Some false)) deferrable_step
-    (on_other (λ x. x) (after kind.Deferrable) (deferrable_found true) not_deferrable all c.args.cursor.now middle end (Ok (Some false)) c.if-accept.ensures
-    (on_word (λ x. x) (after_both kind.Not kind.Deferrable) (deferrable_found false) deferrable_left all middle end end (Ok (Some false)) c.if-accept_both.ensures
+    by_rule (λ x. x) read_deferrable (λ ws. if_some (after kind.Deferrable ws) (deferrable_found true) (not_deferrable ws)) c.args.cursor.now end (Ok (Some false)) deferrable_step
+    (on_other (λ x. x) (after kind.Deferrable) (deferrable_found true) not_deferrable c.args.cursor.now middle end (Ok (Some false)) c.if-accept.ensures
+    (on_word (λ x. x) (after_both kind.Not kind.Deferrable) (deferrable_found false) deferrable_left middle end end (Ok (Some false)) c.if-accept_both.ensures
     (λ o l. (l, refl))))
 
 pub returns : goal.returns
 returns c =
-    let all = c.args.source.now in
     let middle = c.accept.new.self in
     let end = c.accept_both.new.self in
-    by_rule (λ x. x) read_deferrable (λ ws. if_some (after kind.Deferrable ws) (deferrable_found true) (not_deferrable ws)) all c.args.cursor.now end (Ok None) deferrable_step
-    (on_other (λ x. x) (after kind.Deferrable) (deferrable_found true) not_deferrable all c.args.cursor.now middle end (Ok None) c.if-accept.ensures
-    (on_other (λ x. x) (after_both kind.Not kind.Deferrable) (deferrable_found false) deferrable_left all middle end end (Ok None) c.if-accept_both.ensures
+    by_rule (λ x. x) read_deferrable (λ ws. if_some (after kind.Deferrable ws) (deferrable_found true) (not_deferrable ws)) c.args.cursor.now end (Ok None) deferrable_step
+    (on_other (λ x. x) (after kind.Deferrable) (deferrable_found true) not_deferrable c.args.cursor.now middle end (Ok None) c.if-accept.ensures
+    (on_other (λ x. x) (after_both kind.Not kind.Deferrable) (deferrable_found false) deferrable_left middle end end (Ok None) c.if-accept_both.ensures
     (λ o l. (l, refl))))

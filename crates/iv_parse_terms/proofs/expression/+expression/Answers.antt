@@ -15,39 +15,35 @@ primary-returns-then-limit-eq0 t c = λ o l. (l, primary_zero c.args.limit _ c.i
 
 pub primary-returns-in_err-inside : goal.primary-returns-in_err-inside
 primary-returns-in_err-inside t c =
-    let all = c.args.source.now in
     let d = c.args.limit in
     let start = c.args.cursor.now in
     let end = c.expression.new.cursor in
     let r = c.from_residual.result in
-    by_rule tree_in (read_primary d) (λ ws. if_some (after kind.LeftParenthesis ws) (opened d) (simple ws)) all start end r (λ ws. primary_step d ws c.if-limit-eq0.false)
-    (on_word tree_in (after kind.LeftParenthesis) (opened d) simple all start c.accept.new.self end r c.if-accept.ensures
-    (then_told tree_in tree_in (read_expression (d - 1)) (close_group d) all c.accept.new.self end r c.in_err-inside.field-0.0 c.in_err-inside.ensures c.from_residual.ensures))
+    by_rule tree_in (read_primary d) (λ ws. if_some (after kind.LeftParenthesis ws) (opened d) (simple ws)) start end r (λ ws. primary_step d ws c.if-limit-eq0.false)
+    (on_word tree_in (after kind.LeftParenthesis) (opened d) simple start c.accept.new.self end r c.if-accept.ensures
+    (then_told tree_in tree_in (read_expression (d - 1)) (close_group d) c.accept.new.self end r c.in_err-inside.field-0.0 c.in_err-inside.ensures c.from_residual.ensures))
 
 pub primary-returns-then-accept : goal.primary-returns-then-accept
 primary-returns-then-accept t c =
-    let all = c.args.source.now in
     let d = c.args.limit in
     let start = c.args.cursor.now in
     let end = c.close.new.cursor in
     let r = c.close.result in
-    by_rule tree_in (read_primary d) (λ ws. if_some (after kind.LeftParenthesis ws) (opened d) (simple ws)) all start end r (λ ws. primary_step d ws c.if-limit-eq0.false)
-    (on_word tree_in (after kind.LeftParenthesis) (opened d) simple all start c.accept.new.self end r c.if-accept.ensures
-    (then_reads tree_in tree_in (read_expression (d - 1)) (close_group d) all c.accept.new.self c.expression.new.cursor end c.in_ok-inside.inside r c.in_ok-inside.ensures c.close.ensures))
+    by_rule tree_in (read_primary d) (λ ws. if_some (after kind.LeftParenthesis ws) (opened d) (simple ws)) start end r (λ ws. primary_step d ws c.if-limit-eq0.false)
+    (on_word tree_in (after kind.LeftParenthesis) (opened d) simple start c.accept.new.self end r c.if-accept.ensures
+    (then_reads tree_in tree_in (read_expression (d - 1)) (close_group d) c.accept.new.self c.expression.new.cursor end c.in_ok-inside.inside r c.in_ok-inside.ensures c.close.ensures))
 
 pub primary-returns : goal.primary-returns
 primary-returns t c =
-    let all = c.args.source.now in
     let d = c.args.limit in
     let start = c.args.cursor.now in
     let end = c.simple.new.cursor in
     let r = c.simple.result in
-    by_rule tree_in (read_primary d) (λ ws. if_some (after kind.LeftParenthesis ws) (opened d) (simple ws)) all start end r (λ ws. primary_step d ws c.if-limit-eq0.false)
-    (on_other tree_in (after kind.LeftParenthesis) (opened d) simple all start c.accept.new.self end r c.if-accept.ensures c.simple.ensures)
+    by_rule tree_in (read_primary d) (λ ws. if_some (after kind.LeftParenthesis ws) (opened d) (simple ws)) start end r (λ ws. primary_step d ws c.if-limit-eq0.false)
+    (on_other tree_in (after kind.LeftParenthesis) (opened d) simple start c.accept.new.self end r c.if-accept.ensures c.simple.ensures)
 
 pub factors-returns-in_err-right : goal.factors-returns-in_err-right
 factors-returns-in_err-right t c =
-    let all = c.args.source.now in
     let d = c.args.limit in
     let n = c.args.most in
     let a = c.args.left.tree in
@@ -56,13 +52,12 @@ factors-returns-in_err-right t c =
     let middle = c.accept.new.self in
     let end = c.factor.new.cursor in
     let r = c.from_residual.result in
-    by_rule tree_in (more_factors d F n a) (λ ws. if_some (after kind.Asterisk ws) (factor_more d F n a) (Some (a, ws))) all start end r (λ ws. factors_step d F n a ws c.if-most-eq0.false)
-    (on_word tree_in (after kind.Asterisk) (factor_more d F n a) (λ ws. Some (a, ws)) all start middle end r c.if-not-accept.ensures
-    (then_told tree_in tree_in F (λ b more. then_read (fits d (product a b) more) (more_factors d F (n - 1))) all middle end r c.in_err-right.field-0.0 c.in_err-right.ensures c.from_residual.ensures))
+    by_rule tree_in (more_factors d F n a) (λ ws. if_some (after kind.Asterisk ws) (factor_more d F n a) (Some (a, ws))) start end r (λ ws. factors_step d F n a ws c.if-most-eq0.false)
+    (on_word tree_in (after kind.Asterisk) (factor_more d F n a) (λ ws. Some (a, ws)) start middle end r c.if-not-accept.ensures
+    (then_told tree_in tree_in F (λ b more. then_read (fits d (product a b) more) (more_factors d F (n - 1))) middle end r c.in_err-right.field-0.0 c.in_err-right.ensures c.from_residual.ensures))
 
 pub factors-returns-in_err-both : goal.factors-returns-in_err-both
 factors-returns-in_err-both t c =
-    let all = c.args.source.now in
     let d = c.args.limit in
     let n = c.args.most in
     let a = c.args.left.tree in
@@ -71,14 +66,13 @@ factors-returns-in_err-both t c =
     let middle = c.accept.new.self in
     let end = c.factor.new.cursor in
     let r = c.from_residual-in_err-both.result in
-    by_rule tree_in (more_factors d F n a) (λ ws. if_some (after kind.Asterisk ws) (factor_more d F n a) (Some (a, ws))) all start end r (λ ws. factors_step d F n a ws c.if-most-eq0.false)
-    (on_word tree_in (after kind.Asterisk) (factor_more d F n a) (λ ws. Some (a, ws)) all start middle end r c.if-not-accept.ensures
-    (then_reads tree_in tree_in F (λ b more. then_read (fits d (product a b) more) (more_factors d F (n - 1))) all middle end end c.in_ok-right.right r c.in_ok-right.ensures
-    (makes_told tree_in tree_in (fits d (product a c.in_ok-right.right.tree)) (more_factors d F (n - 1)) all end r c.in_err-both.field-0.0 c.in_err-both.ensures c.from_residual-in_err-both.ensures)))
+    by_rule tree_in (more_factors d F n a) (λ ws. if_some (after kind.Asterisk ws) (factor_more d F n a) (Some (a, ws))) start end r (λ ws. factors_step d F n a ws c.if-most-eq0.false)
+    (on_word tree_in (after kind.Asterisk) (factor_more d F n a) (λ ws. Some (a, ws)) start middle end r c.if-not-accept.ensures
+    (then_reads tree_in tree_in F (λ b more. then_read (fits d (product a b) more) (more_factors d F (n - 1))) middle end end c.in_ok-right.right r c.in_ok-right.ensures
+    (makes_told tree_in tree_in (fits d (product a c.in_ok-right.right.tree)) (more_factors d F (n - 1)) end r c.in_err-both.field-0.0 c.in_err-both.ensures c.from_residual-in_err-both.ensures)))
 
 pub factors-returns : goal.factors-returns
 factors-returns t c =
-    let all = c.args.source.now in
     let d = c.args.limit in
     let n = c.args.most in
     let a = c.args.left.tree in
@@ -87,15 +81,14 @@ factors-returns t c =
     let middle = c.accept.new.self in
     let end = c.factors.new.cursor in
     let r = c.factors.result in
-    by_rule tree_in (more_factors d F n a) (λ ws. if_some (after kind.Asterisk ws) (factor_more d F n a) (Some (a, ws))) all start end r (λ ws. factors_step d F n a ws c.if-most-eq0.false)
-    (on_word tree_in (after kind.Asterisk) (factor_more d F n a) (λ ws. Some (a, ws)) all start middle end r c.if-not-accept.ensures
-    (then_reads tree_in tree_in F (λ b more. then_read (fits d (product a b) more) (more_factors d F (n - 1))) all middle c.factor.new.cursor end c.in_ok-right.right r c.in_ok-right.ensures
-    (then_reads tree_in tree_in (fits d (product a c.in_ok-right.right.tree)) (more_factors d F (n - 1)) all c.factor.new.cursor c.factor.new.cursor end c.in_ok-both.both r
-    (made tree_in (fits d (product a c.in_ok-right.right.tree)) all c.factor.new.cursor (Ok c.in_ok-both.both) c.in_ok-both.ensures) c.factors.ensures)))
+    by_rule tree_in (more_factors d F n a) (λ ws. if_some (after kind.Asterisk ws) (factor_more d F n a) (Some (a, ws))) start end r (λ ws. factors_step d F n a ws c.if-most-eq0.false)
+    (on_word tree_in (after kind.Asterisk) (factor_more d F n a) (λ ws. Some (a, ws)) start middle end r c.if-not-accept.ensures
+    (then_reads tree_in tree_in F (λ b more. then_read (fits d (product a b) more) (more_factors d F (n - 1))) middle c.factor.new.cursor end c.in_ok-right.right r c.in_ok-right.ensures
+    (then_reads tree_in tree_in (fits d (product a c.in_ok-right.right.tree)) (more_factors d F (n - 1)) c.factor.new.cursor c.factor.new.cursor end c.in_ok-both.both r
+    (made tree_in (fits d (product a c.in_ok-right.right.tree)) c.factor.new.cursor (Ok c.in_ok-both.both) c.in_ok-both.ensures) c.factors.ensures)))
 
 pub terms-returns-in_err-right : goal.terms-returns-in_err-right
 terms-returns-in_err-right t c =
-    let all = c.args.source.now in
     let d = c.args.limit in
     let n = c.args.most in
     let a = c.args.left.tree in
@@ -104,13 +97,12 @@ terms-returns-in_err-right t c =
     let middle = c.accept_sign.new.self in
     let end = c.term.new.cursor in
     let r = c.from_residual.result in
-    by_rule tree_in (more_terms d F n a) (λ ws. if_some (after_sign ws) (λ p. term_more d F n a p.0 p.1) (Some (a, ws))) all start end r (λ ws. terms_step d F n a ws c.if-most-eq0.false)
-    (on_part tree_in after_sign (λ p. term_more d F n a p.0 p.1) (λ ws. Some (a, ws)) all start middle end c.in-Some.sign r c.in-Some.ensures
-    (then_told tree_in tree_in F (λ b more. then_read (fits d (sum c.in-Some.sign a b) more) (more_terms d F (n - 1))) all middle end r c.in_err-right.field-0.0 c.in_err-right.ensures c.from_residual.ensures))
+    by_rule tree_in (more_terms d F n a) (λ ws. if_some (after_sign ws) (λ p. term_more d F n a p.0 p.1) (Some (a, ws))) start end r (λ ws. terms_step d F n a ws c.if-most-eq0.false)
+    (on_part tree_in after_sign (λ p. term_more d F n a p.0 p.1) (λ ws. Some (a, ws)) start middle end c.in-Some.sign r c.in-Some.ensures
+    (then_told tree_in tree_in F (λ b more. then_read (fits d (sum c.in-Some.sign a b) more) (more_terms d F (n - 1))) middle end r c.in_err-right.field-0.0 c.in_err-right.ensures c.from_residual.ensures))
 
 pub terms-returns-in_err-both : goal.terms-returns-in_err-both
 terms-returns-in_err-both t c =
-    let all = c.args.source.now in
     let d = c.args.limit in
     let n = c.args.most in
     let a = c.args.left.tree in
@@ -119,14 +111,13 @@ terms-returns-in_err-both t c =
     let middle = c.accept_sign.new.self in
     let end = c.term.new.cursor in
     let r = c.from_residual-in_err-both.result in
-    by_rule tree_in (more_terms d F n a) (λ ws. if_some (after_sign ws) (λ p. term_more d F n a p.0 p.1) (Some (a, ws))) all start end r (λ ws. terms_step d F n a ws c.if-most-eq0.false)
-    (on_part tree_in after_sign (λ p. term_more d F n a p.0 p.1) (λ ws. Some (a, ws)) all start middle end c.in-Some.sign r c.in-Some.ensures
-    (then_reads tree_in tree_in F (λ b more. then_read (fits d (sum c.in-Some.sign a b) more) (more_terms d F (n - 1))) all middle end end c.in_ok-right.right r c.in_ok-right.ensures
-    (makes_told tree_in tree_in (fits d (sum c.in-Some.sign a c.in_ok-right.right.tree)) (more_terms d F (n - 1)) all end r c.in_err-both.field-0.0 c.in_err-both.ensures c.from_residual-in_err-both.ensures)))
+    by_rule tree_in (more_terms d F n a) (λ ws. if_some (after_sign ws) (λ p. term_more d F n a p.0 p.1) (Some (a, ws))) start end r (λ ws. terms_step d F n a ws c.if-most-eq0.false)
+    (on_part tree_in after_sign (λ p. term_more d F n a p.0 p.1) (λ ws. Some (a, ws)) start middle end c.in-Some.sign r c.in-Some.ensures
+    (then_reads tree_in tree_in F (λ b more. then_read (fits d (sum c.in-Some.sign a b) more) (more_terms d F (n - 1))) middle end end c.in_ok-right.right r c.in_ok-right.ensures
+    (makes_told tree_in tree_in (fits d (sum c.in-Some.sign a c.in_ok-right.right.tree)) (more_terms d F (n - 1)) end r c.in_err-both.field-0.0 c.in_err-both.ensures c.from_residual-in_err-both.ensures)))
 
 pub terms-returns : goal.terms-returns
 terms-returns t c =
-    let all = c.args.source.now in
     let d = c.args.limit in
     let n = c.args.most in
     let a = c.args.left.tree in
@@ -135,8 +126,8 @@ terms-returns t c =
     let middle = c.accept_sign.new.self in
     let end = c.terms.new.cursor in
     let r = c.terms.result in
-    by_rule tree_in (more_terms d F n a) (λ ws. if_some (after_sign ws) (λ p. term_more d F n a p.0 p.1) (Some (a, ws))) all start end r (λ ws. terms_step d F n a ws c.if-most-eq0.false)
-    (on_part tree_in after_sign (λ p. term_more d F n a p.0 p.1) (λ ws. Some (a, ws)) all start middle end c.in-Some.sign r c.in-Some.ensures
-    (then_reads tree_in tree_in F (λ b more. then_read (fits d (sum c.in-Some.sign a b) more) (more_terms d F (n - 1))) all middle c.term.new.cursor end c.in_ok-right.right r c.in_ok-right.ensures
-    (then_reads tree_in tree_in (fits d (sum c.in-Some.sign a c.in_ok-right.right.tree)) (more_terms d F (n - 1)) all c.term.new.cursor c.term.new.cursor end c.in_ok-both.both r
-    (made tree_in (fits d (sum c.in-Some.sign a c.in_ok-right.right.tree)) all c.term.new.cursor (Ok c.in_ok-both.both) c.in_ok-both.ensures) c.terms.ensures)))
+    by_rule tree_in (more_terms d F n a) (λ ws. if_some (after_sign ws) (λ p. term_more d F n a p.0 p.1) (Some (a, ws))) start end r (λ ws. terms_step d F n a ws c.if-most-eq0.false)
+    (on_part tree_in after_sign (λ p. term_more d F n a p.0 p.1) (λ ws. Some (a, ws)) start middle end c.in-Some.sign r c.in-Some.ensures
+    (then_reads tree_in tree_in F (λ b more. then_read (fits d (sum c.in-Some.sign a b) more) (more_terms d F (n - 1))) middle c.term.new.cursor end c.in_ok-right.right r c.in_ok-right.ensures
+    (then_reads tree_in tree_in (fits d (sum c.in-Some.sign a c.in_ok-right.right.tree)) (more_terms d F (n - 1)) c.term.new.cursor c.term.new.cursor end c.in_ok-both.both r
+    (made tree_in (fits d (sum c.in-Some.sign a c.in_ok-right.right.tree)) c.term.new.cursor (Ok c.in_ok-both.both) c.in_ok-both.ensures) c.terms.ensures)))

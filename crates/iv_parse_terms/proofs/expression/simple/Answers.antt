@@ -15,10 +15,9 @@ text_on ws = if_some (after_quoted ws) (λ p. Some (Text p.0, p.1)) (null_or_col
 
 pub returns : goal.returns
 returns c =
-    let all = c.args.source.now in
     let r = c.null_or_column.result in
-    by_rule tree_in simple (λ ws. if_some (after_number ws) (λ p. Some (Number p.0, p.1)) (text_on ws)) all c.args.cursor.now c.null_or_column.new.cursor r simple_is
-    (on_no_part tree_in after_number (λ p. Some (Number p.0, p.1)) text_on all c.args.cursor.now c.accept_number.new.self c.null_or_column.new.cursor r c.in_default.ensures
-    (on_no_part tree_in after_quoted (λ p. Some (Text p.0, p.1)) null_or_column all c.accept_number.new.self c.accept_quoted.new.self c.null_or_column.new.cursor r
-    (subst (λ x. TriesPart after_quoted all c.accept_number.new.self x c.accept_quoted.new.self) c.in_default-2.is c.in_ok-quoted.ensures)
+    by_rule tree_in simple (λ ws. if_some (after_number ws) (λ p. Some (Number p.0, p.1)) (text_on ws)) c.args.cursor.now c.null_or_column.new.cursor r simple_is
+    (on_no_part tree_in after_number (λ p. Some (Number p.0, p.1)) text_on c.args.cursor.now c.accept_number.new.self c.null_or_column.new.cursor r c.in_default.ensures
+    (on_no_part tree_in after_quoted (λ p. Some (Text p.0, p.1)) null_or_column c.accept_number.new.self c.accept_quoted.new.self c.null_or_column.new.cursor r
+    (subst (λ x. TriesPart after_quoted c.accept_number.new.self x c.accept_quoted.new.self) c.in_default-2.is c.in_ok-quoted.ensures)
     c.null_or_column.ensures))

@@ -1,9 +1,11 @@
-use Rattle.std.proofs.Common.{◌≡◌, sym, ◌∙◌, ap, subst}
+use Rattle.std.specs.Prelude.{max}
+use Rattle.std.proofs.Common.{◌≡◌, ◌+◌, sym, ◌∙◌, ap, subst}
+use Rattle.iv_syntax.specs.Trees.{condition_depth}
 use Rattle.iv_parse_terms.specs.declared.item.Item.TheVariants.{Truth}
-use Rattle.iv_parse_terms.specs.readers.Conditions.{truth_alone, connection_from}
+use Rattle.iv_parse_terms.specs.readers.Conditions.{condition_fits, connection, truth_alone, connection_from}
 use Rattle.iv_parse_terms.specs.Reading.{GivesAs}
 use Rattle.iv_parse_terms.specs.SeenItem.{condition_in, item_in}
-use Rattle.iv_parse_terms.proofs.ConditionSteps.{truth_is, value_joined, joined_value}
+use Rattle.iv_parse_terms.proofs.ConditionSteps.{connected_depth, truth_is, value_joined, joined_value}
 use Rattle.iv_parse_terms.proofs.Rules.{stopped, stop_in, told}
 use Rattle.iv_parse_terms.proofs.predicate.join.Goals as goal
 
@@ -26,10 +28,24 @@ returns-in_err-right c = λ ws.
     ∙ sym (joined_value c.args.connective c.args.limit c.in_ok-left.left.tree c.args.right.item ws (sym n)))
     (stopped condition_in stop (truth_alone c.args.right.item ws) ws (c.in_err-right.ensures ws)))
 
+pub fit-requires : goal.fit-requires
+fit-requires c =
+    let l = c.into_parts-left in
+    let r = c.into_parts-right in
+    ap condition_depth c.in_ok-tree.ensures
+    ∙ (connected_depth c.args.connective l.result.0 r.result.0
+    ∙ sym (ap (λ n. 1 + n) (c.max-below.ensures
+    ∙ (ap (λ n. max n r.result.1) (l.ensures.depth ∙ ap condition_depth (sym l.ensures.tree)) ∙ ap (max (condition_depth l.result.0)) (r.ensures.depth ∙ ap condition_depth (sym r.ensures.tree))))))
+
 pub returns : goal.returns
 returns c = λ ws.
-    let l : Truth c.in_ok-left.left.tree ≡ c.args.left.item = truth_is c.args.left.item c.in_ok-left.left.tree ws ws (sym (c.in_ok-left.ensures ws)) in
-    let r : Truth c.in_ok-right.right.tree ≡ c.args.right.item = truth_is c.args.right.item c.in_ok-right.right.tree ws ws (sym (c.in_ok-right.ensures ws)) in
-    subst (λ x. GivesAs item_in x c.connect.result ws)
-    (ap (λ j. connection_from c.args.connective c.args.limit (Truth c.in_ok-left.left.tree) j ws) r ∙ ap (λ i. connection_from c.args.connective c.args.limit i c.args.right.item ws) l)
-    (c.connect.ensures ws)
+    let k = c.args.connective in
+    let d = c.args.limit in
+    let a = c.in_ok-left.left.tree in
+    let b = c.in_ok-right.right.tree in
+    let l : Truth a ≡ c.args.left.item = truth_is c.args.left.item a ws ws (sym (c.in_ok-left.ensures ws)) in
+    let r : Truth b ≡ c.args.right.item = truth_is c.args.right.item b ws ws (sym (c.in_ok-right.ensures ws)) in
+    let tree = c.in_ok-tree.ensures ∙ (ap (λ x. connection k x c.into_parts-right.result.0) c.into_parts-left.ensures.tree ∙ ap (connection k a) c.into_parts-right.ensures.tree) in
+    subst (λ x. GivesAs item_in x c.fit.result ws)
+    (ap (λ t. condition_fits d t ws) tree ∙ (ap (λ j. connection_from k d (Truth a) j ws) r ∙ ap (λ i. connection_from k d i c.args.right.item ws) l))
+    (c.fit.ensures ws)

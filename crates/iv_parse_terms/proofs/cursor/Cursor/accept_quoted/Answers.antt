@@ -6,16 +6,16 @@ use Rattle.iv_parse_terms.proofs.cursor.Cursor.accept_quoted.Goals as goal
 
 pub pass-requires : goal.pass-requires
 pass-requires c =
-    let inside = within_some quoted_in c.in-Ok-Some.quoted c.args.source.now c.place.result (sym c.in-Ok-Some.field-0-is ∙ c.in-Ok-Some.ensures.found) in
-    omega (arith, inside, c.in-Ok-Some.ensures.few, c.place.ensures)
+    let inside = within_some quoted_in c.in-Ok-Some.quoted c.look.new.self.words c.look.new.self.place (sym c.in-Ok-Some.field-0-is ∙ c.in-Ok-Some.ensures.found) in
+    omega (arith, inside, c.in-Ok-Some.ensures.few)
 
 pub returns-in-Ok-Some : goal.returns-in-Ok-Some
 returns-in-Ok-Some c =
-    one_found_by after_quoted quoted_in one_quoted c.args.source.now c.args.self.now c.look.new.self c.pass.new.self c.in-Ok-Some.quoted c.place.result c.look.ensures c.place.ensures (sym c.in-Ok-Some.field-0-is ∙ c.in-Ok-Some.ensures.found) c.pass.ensures
+    one_found_by after_quoted quoted_in one_quoted c.args.self.now c.look.new.self c.pass.new.self c.in-Ok-Some.quoted c.look.ensures (sym c.in-Ok-Some.field-0-is ∙ c.in-Ok-Some.ensures.found) c.pass.ensures
 
 pub returns-in-Ok-None : goal.returns-in-Ok-None
 returns-in-Ok-None c =
-    one_missed_by after_quoted quoted_in one_quoted c.args.source.now c.args.self.now c.look.new.self c.miss.new.self c.place.result c.look.ensures c.place.ensures (sym c.in-Ok-None.field-0-is ∙ c.in-Ok-None.ensures.found) c.miss.ensures
+    one_missed_by after_quoted quoted_in one_quoted c.args.self.now c.look.new.self c.miss.new.self c.look.ensures (sym c.in-Ok-None.field-0-is ∙ c.in-Ok-None.ensures.found) c.miss.ensures
 
 pub returns-in-Err : goal.returns-in-Err
-returns-in-Err c = λ o l. (one_looked_by c.args.source.now c.args.self.now c.look.new.self o c.look.ensures l, tt)
+returns-in-Err c = λ o l. (one_looked_by c.args.self.now c.look.new.self o c.look.ensures l, tt)
