@@ -80,16 +80,13 @@ fn actions(cursor: &mut Cursor<'_>) -> Result<Items<TriggerAction>, Stop>
 }
 
 // One action at least, and END.
-fn some_actions(
-    cursor: &mut Cursor<'_>,
-    actions: Items<TriggerAction>,
-) -> Result<Items<TriggerAction>, Stop>
-    ensures { Reads (some_actions actions) cursor.old result cursor.new }
+fn ended(cursor: &mut Cursor<'_>, found: Items<TriggerAction>) -> Result<Items<TriggerAction>, Stop>
+    ensures { Reads (some_actions found) cursor.old result cursor.new }
 {
-    if actions.is_empty() {
+    if found.is_empty() {
         return Err(Stop::NoMatch);
     }
-    cursor.followed(actions, TokenKind::End)
+    cursor.followed(found, TokenKind::End)
 }
 
 /// The body of a trigger: an action, or BEGIN ATOMIC and actions.
@@ -100,7 +97,7 @@ pub fn body(cursor: &mut Cursor<'_>) -> Result<Items<TriggerAction>, Stop>
     if cursor.accept(TokenKind::Begin) {
         cursor.expect(TokenKind::Atomic)?;
         let found = actions(cursor)?;
-        return some_actions(cursor, found);
+        return ended(cursor, found);
     }
     let action = action(cursor)?;
     let mut actions = Items::new(cursor.alloc());
