@@ -343,7 +343,10 @@ enum sqlkeep_entry_kind {
     SQLKEEP_ENTRY_SKIPPED = 6,
     /* Two foreign keys set a column of a row to different values: the constraint is the later of them, the item is the row.
        sqlkeep_disagreement tells the earlier one, the column and both values. */
-    SQLKEEP_ENTRY_DISAGREEMENT = 7
+    SQLKEEP_ENTRY_DISAGREEMENT = 7,
+    /* A number out of range, or a text that is too long. Its item, if it has one, is the row at hand; otherwise it may have an old and
+       a new row of a trigger. sqlkeep_entry_trigger names the trigger whose WHEN it is. sqlkeep_lines tells the rest in words. */
+    SQLKEEP_ENTRY_FAILURE = 8
 };
 
 /* An entry of an account. What its kind doesn't have is 0. */

@@ -194,7 +194,8 @@ inline bool is_reason(std::string_view line, std::uint32_t cause) {
     for (const char *word : {"insert ", "update ", "delete ", "trigger ", "statement ", "saw "}) {
         if (begins(line, word)) return false;
     }
-    return line.find(": ") != std::string_view::npos;
+    return line.find(": ") != std::string_view::npos || line.find(" is VARCHAR(") != std::string_view::npos || begins(line, "counted so far ")
+        || begins(line, "a transaction has at most ");
 }
 
 // Whether a text begins with the word COMMIT; spaces and comments before it are passed over.

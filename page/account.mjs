@@ -7,19 +7,19 @@
  * @typedef {{kind: "statement", place: number, entries: Entry[], changesNothing?: true}} BodyStatement
  * @typedef {{kind: "trigger", trigger: string, old: Value[] | null, new: Value[] | null, saw: Change[], statements: BodyStatement[]}} Run
  * @typedef {{kind: "skipped", trigger: string, old: Value[] | null, new: Value[] | null, when: "false" | "unknown"}} Skipped
- * @typedef {{kind: "violation", constraint: string, table: string, row: number, values: Value[], reason: string, column?: string,
- *     otherTable?: string, otherRow?: number, other?: Value[], otherConstraint?: string, value?: Value, otherValue?: Value}} Violation
+ * @typedef {{kind: "violation", constraint: string, rule?: string, table: string, row: number, values: Value[], reason: string, condition?: string,
+ *     withValues?: string, column?: string, otherTable?: string, otherRow?: number, other?: Value[], otherConstraint?: string, value?: Value, otherValue?: Value}} Violation
  * @typedef {{kind: "note", text: string}} Note
  * @typedef {Change | Action | Run | Skipped | Violation | Note} Entry
  */
 
 const ACTION = /^(\w+) (CASCADE|SET NULL|SET DEFAULT) on (\w+) row (\d+)$/;
 const CHANGE = /^(insert|delete|update) (\w+) row (\d+) /;
-const VIOLATION = /^(\w+): (\w+) row (\d+) /;
+const VIOLATION = /^(\w+)(?: \(((?:NOT NULL|CHECK|UNIQUE|PRIMARY KEY|FOREIGN KEY)[\w ,()]*)\))?: (\w+) row (\d+) /;
 const VALUE = /NULL|-?\d+|'[^']*(?:''[^']*)*'/y;
 /** @type {[string, RegExp][]} */
 const REASONS = [
-  ["condition", / makes its condition false$/y],
+  ["condition", / makes ((?:[^']|'[^']*')+) false \(((?:[^']|'[^']*')+)\)$/y],
   ["null", / has NULL in (\w+)$/y],
   ["key", / has the key of row (\d+) /y],
   ["null key", / has a null in its key$/y],
@@ -133,7 +133,8 @@ function violationOf(line) {
     return null;
   }
   const { values, end } = valuesAt(line, found[0].length);
-  return { kind: "violation", constraint: found[1], table: found[2], row: Number(found[3]), values, ...reasonOf(line, end) };
+  const rule = found[2] ? { rule: found[2] } : {};
+  return { kind: "violation", constraint: found[1], ...rule, table: found[3], row: Number(found[4]), values, ...reasonOf(line, end) };
 }
 
 function reasonOf(line, at) {
@@ -148,6 +149,9 @@ function reasonOf(line, at) {
 }
 
 function detailsOf(reason, found, line, at) {
+  if (reason === "condition") {
+    return { condition: found[1], withValues: found[2] };
+  }
   if (reason === "null") {
     return { column: found[1] };
   }

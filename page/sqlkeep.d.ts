@@ -111,10 +111,15 @@ export interface TriggerSkipped {
 export interface ViolationEntry {
   kind: "violation";
   constraint: string;
+  /** What the constraint asks, as "PRIMARY KEY (ID)", if its name was generated. */
+  rule?: string;
   table: string;
   row: number;
   values: Value[];
   reason: "condition" | "null" | "key" | "null key" | "absent" | "some nulls" | "restrict" | "conflict";
+  /** The condition of a CHECK, as "PRICE > 0", and with the values of the row, as "-1 > 0". */
+  condition?: string;
+  withValues?: string;
   /** The column that is null, or that two foreign keys set to different values. */
   column?: string;
   /** The other row with the same key, and its values. */

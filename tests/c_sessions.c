@@ -200,7 +200,7 @@ static int accounts(void) {
     WANT(run_text(&session, LOGGED, &summary) == SQLKEEP_OK && summary.accepted == 4 && summary.refused == 1);
     WANT(has_transcript(&session,
         "1 ok\n2 ok\n3 ok\n4 ok 1\n  insert T row 1 (7)\n  trigger NOTE NEW (7)\n  statement 1\n    insert LOG row 2 (7)\n"
-        "5 refused 13 Violation KNOWN row 3\n  insert T row 3 (0)\n  KNOWN: T row 3 (0) makes its condition false\nend rolled back\n"));
+        "5 refused 13 Violation KNOWN row 3\n  insert T row 3 (0)\n  KNOWN: T row 3 (0) makes A > 0 false (0 > 0)\nend rolled back\n"));
     WANT(read_text(&session, LOGGED, &script) == SQLKEEP_OK && script.statements == 5);
     for (at = 0; at < 4; at++) {
         WANT(sqlkeep_execute(&session, at, &outcome) == SQLKEEP_OK && outcome.kind != SQLKEEP_REFUSED);

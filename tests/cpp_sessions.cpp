@@ -61,7 +61,7 @@ static void refusals() {
     keep::session session = books();
     auto refused = thrown<keep::refused>([&] { session.execute("INSERT INTO book VALUES ('Emma', 'Austen', 0)"); });
     WANT(refused.why().cause == SQLKEEP_CAUSE_VIOLATION && refused.why().constraint == "SOME" && refused.why().row == 2U);
-    WANT(refused.what() == std::string("Violation: SOME: BOOK row 2 ('Emma', 'Austen', 0) makes its condition false"));
+    WANT(refused.what() == std::string("Violation: SOME: BOOK row 2 ('Emma', 'Austen', 0) makes PAGES > 0 false (0 > 0)"));
     refused = thrown<keep::refused>([&] { session.execute("INSERT INTO boook VALUES (1)"); });
     WANT(refused.what() == std::string("Unknown: table BOOOK isn't there"));
     WANT(session.message() == "refused: Unknown: table BOOOK isn't there" && session.places().size() == 1 && session.places()[0].end == 30);

@@ -201,6 +201,11 @@ const tests = {
     const texts = ["INSERT INTO m VALUES (1, 2, 0);", "INSERT INTO c VALUES (NULL);", "INSERT INTO m VALUES (1, 1, 1);", "INSERT INTO q VALUES (1, NULL);", "INSERT INTO c VALUES (6);", "INSERT INTO full_key VALUES (1, NULL);",
       "DELETE FROM p;", "UPDATE p SET k = 6, l = 7;"];
     assert.deepEqual(texts.map(reason), ["condition", "null", "key", "null key", "absent", "some nulls", "restrict", "conflict"]);
+    assert.throws(() => session.execute(texts[0]), Refusal);
+    const { constraint, rule, condition, withValues } = session.account.find((entry) => entry.kind === "violation");
+    assert.deepEqual([constraint, rule, condition, withValues], ["M_C2", "CHECK", "Z > 0", "0 > 0"]);
+    assert.throws(() => session.execute(texts[5]), Refusal);
+    assert.equal(session.account.find((entry) => entry.kind === "violation").rule, "FOREIGN KEY (A, B) REFERENCES Q (A, B) MATCH FULL");
   },
   names_in_an_account() {
     const session = engine.open({ explain: true });

@@ -107,12 +107,38 @@ def reason_text(entry):
     return {
         'some_nulls': ' has some nulls in its key',
         'null_in_key': ' has a null in its key',
-        'false_condition': ' makes its condition false',
+        'false_condition': ' makes %s false (%s)' % (entry.get('condition'), entry.get('with_values')),
         'null': ' has NULL in %s' % entry.get('column')}[because]
+
+
+def constraint_text(entry):
+    """The constraint by its name, and what it asks, if the name was generated."""
+    generated = re.match('%(table)s_C[0-9]' % entry, entry['constraint'])
+    return '%(constraint)s (%(rule)s)' % entry if generated else entry['constraint']
 
 
 def asked_text(entry):
     return 'trigger ' + entry['trigger'] + listed(' OLD', entry.get('old')) + listed(' NEW', entry.get('new'))
+
+
+def part_text(entry):
+    """What was evaluated, with the table of a column."""
+    return {
+        'column': '%s of %s' % (entry.get('column'), entry.get('column_of')),
+        'item': 'item %s' % entry.get('item'),
+        'where': 'WHERE',
+        'when': 'WHEN of trigger %s' % entry.get('trigger')}[entry['part']]
+
+
+def failure_text(entry):
+    if 'table' not in entry:
+        front = part_text(entry) + listed(' OLD', entry.get('old')) + listed(' NEW', entry.get('new'))
+    else:
+        part = part_text(entry) + ' from' if entry.get('source') else part_text(entry).removesuffix(' of %s' % entry.get('column_of')) + ' of'
+        front = '%s %s row %d%s' % (part, entry['table'], entry['row'], listed('', entry['values']))
+    if entry['because'] == 'too_long':
+        return '%s is VARCHAR(%d), and the text has %d characters' % (front, entry['most'], entry['length'])
+    return '%s: %d %s %d is out of range' % (front, entry['left'], entry['operator'], entry['right'])
 
 
 def entry_lines(entry):
@@ -125,10 +151,14 @@ def entry_lines(entry):
         return [asked_text(entry), *('  saw ' + change_text(change) for change in entry['saw'])]
     if entry['entry'] == 'skipped':
         return [asked_text(entry) + ' skipped: WHEN is ' + entry['when']]
+    if entry['entry'] == 'limit':
+        return [entry['text']]
     if entry['entry'] == 'statement':
         line = 'statement %d' % entry['number'] + (' changes nothing' if entry.get('changes_nothing') else '')
         return [line, *('  ' + line for line in account_lines(entry['account']))]
-    row = '%(constraint)s: %(table)s row %(row)d' % entry
+    if entry['entry'] == 'failure':
+        return [failure_text(entry)]
+    row = '%s: %s row %d' % (constraint_text(entry), entry['table'], entry['row'])
     return [row + listed('', entry['values']) + reason_text(entry)]
 
 
@@ -165,7 +195,7 @@ def outcome_lines(outcome):
     yield from [about_text(outcome['about'])] if 'about' in outcome else []
     yield from ['  ' + outcome['reason']] if 'reason' in outcome else []
     yield from ('  now pending ' + line for entry in outcome.get('now_pending', []) for line in entry_lines(entry))
-    yield from ('  no longer pending %(constraint)s: %(table)s row %(row)d' % gone for gone in outcome.get('no_longer_pending', []))
+    yield from ('  no longer pending %s: %s row %d' % (constraint_text(gone), gone['table'], gone['row']) for gone in outcome.get('no_longer_pending', []))
 
 
 def fault_lines(fault, explain):

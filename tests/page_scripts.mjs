@@ -12,7 +12,7 @@ const engine = await load(readFileSync(`${folder}/sqlkeep.wasm`));
 
 const row = (values) => `(${values.map(writtenValue).join(", ")})`;
 const REASONS = {
-  condition: () => "makes its condition false",
+  condition: (entry) => `makes ${entry.condition} false (${entry.withValues})`,
   null: (entry) => `has NULL in ${entry.column}`,
   key: (entry) => `has the key of row ${entry.otherRow} ${row(entry.other)}`,
   "null key": () => "has a null in its key",
@@ -36,7 +36,7 @@ function written(entries, indent) {
     const line = {
       skipped: () => `trigger ${entry.trigger}${seen(entry)} skipped: WHEN is ${entry.when}`,
       action: () => `${entry.constraint} ${entry.action} on ${entry.table} row ${entry.row}`,
-      violation: () => `${entry.constraint}: ${entry.table} row ${entry.row} ${row(entry.values)} ${REASONS[entry.reason](entry)}`,
+      violation: () => `${entry.constraint}${entry.rule ? ` (${entry.rule})` : ""}: ${entry.table} row ${entry.row} ${row(entry.values)} ${REASONS[entry.reason](entry)}`,
       note: () => entry.text,
     }[entry.kind] ?? (() => change(entry));
     return [indent + line()];

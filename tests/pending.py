@@ -1,9 +1,9 @@
 """The violations of deferred constraints that are pending after each statement, as the lines of accounts tell them: which came and which went."""
 import re
 
-CAME = re.compile(rb'^  now pending (\w+): \w+ row (\d+) ', re.M)
-WENT = re.compile(rb'^  no longer pending (\w+): \w+ row (\d+)$', re.M)
-LINES = re.compile(rb"^  (?:now pending \w+: \w+ row \d+ (?:n't|[^'\n]|'[^']*')*|no longer pending \w+: \w+ row \d+)\n", re.M)
+CAME = re.compile(rb'^  now pending (\w+)(?: \([A-Z][\w ,()]*\))?: \w+ row (\d+) ', re.M)
+WENT = re.compile(rb'^  no longer pending (\w+)(?: \([A-Z][\w ,()]*\))?: \w+ row (\d+)$', re.M)
+LINES = re.compile(rb"^  (?:now pending \w+(?: \([A-Z][\w ,()]*\))?: \w+ row \d+ (?:n't|[^'\n]|'[^']*')*|no longer pending \w+(?: \([A-Z][\w ,()]*\))?: \w+ row \d+)\n", re.M)
 # The end of a transaction, as a statement is written.
 END = re.compile(rb'(?:\s|--[^\n]*\n)*(?:COMMIT|ROLLBACK)(?:\s+WORK)?\s*;?\s*', re.I)
 

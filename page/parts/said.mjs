@@ -5,7 +5,7 @@ import { element } from "./elements.mjs";
 import { grid } from "./grid.mjs";
 
 // The causes of which the last line says the name at fault or the reason.
-const TOLD = new Set([1, 2, 3, 7, 8, 9, 21]);
+const TOLD = new Set([1, 2, 3, 7, 8, 9, 10, 11, 16, 17, 18, 21]);
 
 /** What a statement answered, as elements. */
 export function saidOf(detail, text) {

@@ -489,7 +489,7 @@ def explained_keys(rows):
     lines = ['1 ok', '2 ok', '3 ok %d' % half, *numbered('  insert T row {n} ({n})', half)]
     equal = ['K: T row %d (%d) has the key of row %d (%d)' % (n, n, n + half, n) for n in range(1, half + 1)]
     equal += ['K: T row %d (%d) has the key of row %d (%d)' % (n + half, n, n, n) for n in range(1, half + 1)]
-    null = ['P_C1: P row %d (NULL) has a null in its key' % n for n in range(rows + 1, 2 * rows + 1)]
+    null = ['P_C1 (PRIMARY KEY (A)): P row %d (NULL) has a null in its key' % n for n in range(rows + 1, 2 * rows + 1)]
     lines += ['4 ok %d' % half, *['  insert T row %d (%d)' % (n + half, n) for n in range(1, half + 1)], *now_pending(equal)]
     lines += ['5 ok %d' % rows, *['  insert P row %d (NULL)' % n for n in range(rows + 1, 2 * rows + 1)], *now_pending(null)]
     lines += ['6 refused 19 CommitRefused K row 1', *['  ' + one for one in equal + null]]

@@ -30,7 +30,7 @@ STOCK = """  insert SALE row 7 (1, 2)
   trigger TAKE NEW (2, 1)
   statement 1
     update STOCK row 2 (2, 0) to (2, -1)
-    ENOUGH: STOCK row 2 (2, -1) makes its condition false
+    ENOUGH: STOCK row 2 (2, -1) makes PIECES >= 0 false (-1 >= 0)
 """
 
 
@@ -48,7 +48,7 @@ class Stored(unittest.TestCase):
 class ByHand(unittest.TestCase):
     def test_nested(self):
         track = Trigger("TRACK", old=(1, 7), new=(1, 5), statements=(Nested(1, (Change("insert", "LOG", 9, None, ("stock", 1, -2)),)),))
-        short = Violation("ENOUGH", "STOCK", 2, (2, -1), "condition")
+        short = Violation("ENOUGH", "STOCK", 2, (2, -1), "condition", condition="PIECES >= 0", with_values="-1 >= 0")
         self.assertEqual(sqlkeep.parse_account(STOCK).events, (
             Change("insert", "SALE", 7, None, (1, 2)),
             Change("insert", "SALE", 8, None, (2, 1)),
@@ -60,7 +60,7 @@ class ByHand(unittest.TestCase):
         account = sqlkeep.parse_account(STOCK)
         self.assertEqual(account.touched(), {"SALE": {"insert": 2}, "STOCK": {"update": 2}, "LOG": {"insert": 1}})
         self.assertEqual(account.triggers(), ["TAKE", "TRACK", "TAKE"])
-        self.assertEqual([(each.constraint, each.row, each.reason) for each in account.violations], [("ENOUGH", 2, "STOCK row 2 (2, -1) makes its condition false")])
+        self.assertEqual([(each.constraint, each.row, each.reason) for each in account.violations], [("ENOUGH", 2, "STOCK row 2 (2, -1) makes PIECES >= 0 false (-1 >= 0)")])
         self.assertEqual([(each.kind, each.row) for each in account.changes()], [("insert", 7), ("insert", 8), ("update", 1), ("insert", 9), ("update", 2)])
         self.assertIsNone(account.name)
 
@@ -93,7 +93,12 @@ class ByHand(unittest.TestCase):
 
     def test_each_matter(self):
         for line, wanted in [
-            ("C: T row 1 (0) makes its condition false", Violation("C", "T", 1, (0,), "condition")),
+            ("C: T row 1 (0) makes A > 0 false (0 > 0)", Violation("C", "T", 1, (0,), "condition", condition="A > 0", with_values="0 > 0")),
+            ("C: T row 1 ('n') makes A = 'it''s false (' false ('n' = 'it''s false (')",
+             Violation("C", "T", 1, ("n",), "condition", condition="A = 'it''s false ('", with_values="'n' = 'it''s false ('")),
+            ("T_C1 (NOT NULL A): T row 1 (NULL) has NULL in A", Violation("T_C1", "T", 1, (None,), "null", column="A", rule="NOT NULL A")),
+            ("T_C2 (FOREIGN KEY (A, B) REFERENCES P (K, L) MATCH FULL): T row 1 (NULL, 5) has some nulls in its key",
+             Violation("T_C2", "T", 1, (None, 5), "some nulls", rule="FOREIGN KEY (A, B) REFERENCES P (K, L) MATCH FULL")),
             ("C: T row 1 (NULL, 'x') has NULL in A", Violation("C", "T", 1, (None, "x"), "null", column="A")),
             ("C: T row 1 (5) has the key of row 2 (5)", Violation("C", "T", 1, (5,), "same key", other_row=2, other_values=(5,))),
             ("C: T row 1 (NULL) has a null in its key", Violation("C", "T", 1, (None,), "null in key")),
@@ -129,6 +134,11 @@ class ByHand(unittest.TestCase):
             "constraint K refers to T (A, B), which is no key that is NOT DEFERRABLE", "REFERENCING names the old row twice", "REFERENCING name Z is for old rows, and INSERT has none",
             "statement 2 is SET, and the trigger is AFTER", "statement 2 sets Z.B, which is of the old row", "there would be 65 tables, and 64 is the most",
             "trigger R would have 33 statements, and 32 is the most", "column B is a VARCHAR(0), and 1 is the least", "savepoint S isn't there",
+            "A of T: 9223372036854775807 + 1 is out of range", "PRICE of BOOK row 3 ('it''s: 1', 9): 9223372036854775807 * -2 is out of range",
+            "WHERE of BOOK row 1 ('a\n  statement 1\n'): 0 - -9223372036854775808 is out of range", "WHEN of trigger R OLD (1) NEW (2): 9223372036854775807 + 2 is out of range",
+            "item 2 of BOOK row 1 (9): 9223372036854775807 + 9 is out of range", "TITLE of BOOK from U row 3 ('it''s') is VARCHAR(5), and the text has 19 characters",
+            "depth 2, and 1 is the most: R statement 1", "counted so far 4, and this or the next row changes are too many: R statement 1, S statement 2",
+            "counted so far 1, and this or the next row changes are too many", "a transaction has at most 1048576 row changes",
         ):
             with self.subTest(line):
                 account = sqlkeep.parse_account(f"  {line}\n")

@@ -24,26 +24,26 @@ CAUSES = [
     ("CREATE TABLE t (a INT CONSTRAINT c NOT NULL);", "SET CONSTRAINTS c DEFERRED", sqlkeep.ProgrammingError, 8, "NotDeferrable", "NotDeferrable of C: constraint C is NOT DEFERRABLE"),
     ("CREATE TABLE t (a INT);", "INSERT INTO t VALUES (1, 2)", sqlkeep.ProgrammingError, 9, "WrongShape",
      "WrongShape: tuple 1 has 2 values for 1 column of T"),
-    ("CREATE TABLE t (a INT);", "INSERT INTO t VALUES (9223372036854775807 + 1)", sqlkeep.DataError, 10, "NumberOutOfRange", "NumberOutOfRange: a result has more than 64 bits"),
-    ("CREATE TABLE t (a VARCHAR(3));", "INSERT INTO t VALUES ('four')", sqlkeep.DataError, 11, "TextTooLong", "TextTooLong: a text has more characters than its column holds"),
+    ("CREATE TABLE t (a INT);", "INSERT INTO t VALUES (9223372036854775807 + 1)", sqlkeep.DataError, 10, "NumberOutOfRange", "NumberOutOfRange: A of T: 9223372036854775807 + 1 is out of range"),
+    ("CREATE TABLE t (a VARCHAR(3));", "INSERT INTO t VALUES ('four')", sqlkeep.DataError, 11, "TextTooLong", "TextTooLong: A of T is VARCHAR(3), and the text has 4 characters"),
     ("CREATE TABLE p (k INT PRIMARY KEY); CREATE TABLE c (x INT CONSTRAINT f REFERENCES p ON DELETE RESTRICT); INSERT INTO p VALUES (1); INSERT INTO c VALUES (1);",
      "DELETE FROM p", sqlkeep.IntegrityError, 12, "Restrict", "Restrict of F: C row 2 (1) refers to P (1), which RESTRICT protects"),
     ("CREATE TABLE t (a INT CONSTRAINT positive CHECK (a > 0));", "INSERT INTO t VALUES (0)", sqlkeep.IntegrityError, 13, "Violation",
-     "Violation of POSITIVE: T row 1 (0) makes its condition false"),
-    ("CREATE TABLE t (a INT, b VARCHAR(9) NOT NULL);", "INSERT INTO t VALUES (7, NULL)", sqlkeep.IntegrityError, 13, "Violation", "Violation of T_C1: T row 1 (7, NULL) has NULL in B"),
+     "Violation of POSITIVE: T row 1 (0) makes A > 0 false (0 > 0)"),
+    ("CREATE TABLE t (a INT, b VARCHAR(9) NOT NULL);", "INSERT INTO t VALUES (7, NULL)", sqlkeep.IntegrityError, 13, "Violation", "Violation of T_C1 (NOT NULL B): T row 1 (7, NULL) has NULL in B"),
     ("CREATE TABLE t (a INT UNIQUE); INSERT INTO t VALUES (7);", "INSERT INTO t VALUES (7)", sqlkeep.IntegrityError, 13, "Violation",
-     "Violation of T_C1: T row 1 (7) has the key of row 2 (7)"),
-    ("CREATE TABLE t (a INT PRIMARY KEY);", "INSERT INTO t VALUES (NULL)", sqlkeep.IntegrityError, 13, "Violation", "Violation of T_C1: T row 1 (NULL) has a null in its key"),
+     "Violation of T_C1 (UNIQUE (A)): T row 1 (7) has the key of row 2 (7)"),
+    ("CREATE TABLE t (a INT PRIMARY KEY);", "INSERT INTO t VALUES (NULL)", sqlkeep.IntegrityError, 13, "Violation", "Violation of T_C1 (PRIMARY KEY (A)): T row 1 (NULL) has a null in its key"),
     ("CREATE TABLE t (a INT CHECK (a > 0)); CREATE TABLE u (a INT); CREATE TRIGGER r AFTER INSERT ON u INSERT INTO t VALUES (0);",
-     "INSERT INTO u VALUES (5)", sqlkeep.IntegrityError, 13, "Violation", "Violation of T_C1: T row 2 (0) makes its condition false, in trigger R"),
+     "INSERT INTO u VALUES (5)", sqlkeep.IntegrityError, 13, "Violation", "Violation of T_C1 (CHECK): T row 2 (0) makes A > 0 false (0 > 0), in trigger R"),
     ("CREATE TABLE p (k INT UNIQUE, l INT UNIQUE); CREATE TABLE c (x INT, CONSTRAINT f FOREIGN KEY (x) REFERENCES p (k) ON UPDATE SET NULL,"
      " CONSTRAINT g FOREIGN KEY (x) REFERENCES p (l) ON UPDATE CASCADE); INSERT INTO p VALUES (5, 5); INSERT INTO c VALUES (5);",
      "UPDATE p SET k = 6, l = 7", sqlkeep.IntegrityError, 14, "ActionConflict", "ActionConflict of G: C row 2 (5) refers to P (5), and F sets X to NULL, where G sets it to 7"),
     ("CREATE TABLE t (a INT); CREATE TRIGGER guard BEFORE DELETE ON t SIGNAL 'it''s kept';", "DELETE FROM t", sqlkeep.IntegrityError, 15, "Signal", "Signal of GUARD: it's kept"),
     ("CREATE TABLE t (a INT); CREATE TRIGGER again AFTER INSERT ON t INSERT INTO t VALUES (1);", "INSERT INTO t VALUES (0)", sqlkeep.OperationalError, 16, "DepthLimit",
-     "DepthLimit of AGAIN: the statements of triggers are nested too deep"),
+     "DepthLimit of AGAIN: depth 17, and 16 is the most: AGAIN statement 1, AGAIN statement 1, AGAIN statement 1, .., AGAIN statement 1"),
     ("CREATE TABLE t (a INT CONSTRAINT positive CHECK (a > 0) INITIALLY DEFERRED); INSERT INTO t VALUES (0);", "COMMIT", sqlkeep.IntegrityError, 19, "CommitRefused",
-     "CommitRefused of POSITIVE: T row 1 (0) makes its condition false; the transaction is rolled back"),
+     "CommitRefused of POSITIVE: T row 1 (0) makes A > 0 false (0 > 0); the transaction is rolled back"),
     ("CREATE TABLE t (a INT); INSERT INTO t VALUES (0); COMMIT;", "ALTER TABLE t ADD CHECK (a > 0)", sqlkeep.IntegrityError, 20, "AddRefused",
      "AddRefused: row 1: a row violates the constraint that ALTER TABLE adds"),
     ("", "CREATE TABLE t (a VARCHAR(4097))", sqlkeep.OperationalError, 21, "Limit", "Limit: column A is a VARCHAR(4097), and 4096 is the most"),
@@ -131,11 +131,11 @@ class Attributes(unittest.TestCase):
 
     def test_a_place_in_a_script(self):
         error = refusal(self.connection.executescript, "INSERT INTO author VALUES ('a');\nINSERT INTO author VALUES ('b'); INSERT INTO author VALUES ('a')")
-        self.assertEqual((error.statement, str(error)), (3, "statement 3: Violation of AUTHOR_C1: AUTHOR row 1 ('a') has the key of row 3 ('a')"))
+        self.assertEqual((error.statement, str(error)), (3, "statement 3: Violation of AUTHOR_C1 (PRIMARY KEY (NAME)): AUTHOR row 1 ('a') has the key of row 3 ('a')"))
 
     def test_a_place_in_executemany(self):
         error = refusal(self.connection.executemany, "INSERT INTO author VALUES (?)", [(str(number),) for number in range(200)] + [("7",)])
-        self.assertEqual((error.statement, str(error)), (201, "statement 201: Violation of AUTHOR_C1: AUTHOR row 8 ('7') has the key of row 201 ('7')"))
+        self.assertEqual((error.statement, str(error)), (201, "statement 201: Violation of AUTHOR_C1 (PRIMARY KEY (NAME)): AUTHOR row 8 ('7') has the key of row 201 ('7')"))
 
     def test_a_place_in_executemany_of_a_generator(self):
         error = refusal(self.connection.executemany, "INSERT INTO author VALUES (?)", ((name,) for name in "abca"))
@@ -149,7 +149,7 @@ class Attributes(unittest.TestCase):
     def test_lines_are_those_of_the_program(self):
         self.connection.execute("INSERT INTO author VALUES ('a')")
         error = refusal(self.connection.execute, "INSERT INTO author VALUES ('a')")
-        self.assertEqual(error.lines, "1 refused 13 Violation AUTHOR_C1 row 1\n  insert AUTHOR row 2 ('a')\n  AUTHOR_C1: AUTHOR row 1 ('a') has the key of row 2 ('a')\n")
+        self.assertEqual(error.lines, "1 refused 13 Violation AUTHOR_C1 row 1\n  insert AUTHOR row 2 ('a')\n  AUTHOR_C1 (PRIMARY KEY (NAME)): AUTHOR row 1 ('a') has the key of row 2 ('a')\n")
 
     def test_other_errors_have_none_of_it(self):
         error = refusal(self.connection.execute, "SELECT * FROM author WHERE name = ?", (1.5,))
@@ -220,7 +220,7 @@ class Telling(unittest.TestCase):
     def setUp(self):
         self.connection = sqlkeep.connect()
         self.connection.executescript("CREATE TABLE t (a INT PRIMARY KEY, b INT CHECK (b > 0)); INSERT INTO t VALUES (1, 1); COMMIT;")
-        self.wanted = "Violation of T_C1: T row 1 (1, 1) has the key of row 2 (1, 5)"
+        self.wanted = "Violation of T_C1 (PRIMARY KEY (A)): T row 1 (1, 1) has the key of row 2 (1, 5)"
 
     def refused(self):
         return refusal(self.connection.execute, "INSERT INTO t VALUES (?, ?)", (1, 5))
@@ -248,7 +248,7 @@ class Telling(unittest.TestCase):
 
     def test_several_errors_are_kept(self):
         kept = [self.refused(), refusal(self.connection.execute, "INSERT INTO t VALUES (2, 0)"), refusal(self.connection.execute, "SELECT * FROM uu")]
-        self.assertEqual([str(error) for error in kept], [self.wanted, "Violation of T_C2: T row 2 (2, 0) makes its condition false", "Unknown: table UU isn't there"])
+        self.assertEqual([str(error) for error in kept], [self.wanted, "Violation of T_C2 (CHECK): T row 2 (2, 0) makes B > 0 false (0 > 0)", "Unknown: table UU isn't there"])
 
     def test_work_is_that_of_the_statement(self):
         session = sqlkeep.Session()
@@ -264,7 +264,7 @@ class Telling(unittest.TestCase):
         self.connection.execute("INSERT INTO t VALUES (2, 2)")
         self.assertEqual(self.connection.execute("SELECT * FROM t").fetchall(), [(1, 1), (2, 2)])
         again = refusal(self.connection.execute, "INSERT INTO t VALUES (2, 3)")
-        self.assertEqual(str(again), "Violation of T_C1: T row 2 (2, 2) has the key of row 3 (2, 3)")
+        self.assertEqual(str(again), "Violation of T_C1 (PRIMARY KEY (A)): T row 2 (2, 2) has the key of row 3 (2, 3)")
 
     def test_a_commit_is_never_executed_again(self):
         """The engine knows by the cause that COMMIT has rolled back, also where nobody has said that the statement is one."""
@@ -297,7 +297,7 @@ class Telling(unittest.TestCase):
         thread = threading.Thread(target=work)
         thread.start()
         thread.join()
-        self.assertEqual(str(kept[0]), "Violation of T_C1: T row 1 (0) makes its condition false")
+        self.assertEqual(str(kept[0]), "Violation of T_C1 (CHECK): T row 1 (0) makes A > 0 false (0 > 0)")
 
     def test_another_thread_cannot_ask(self):
         error, texts = self.refused(), []

@@ -117,7 +117,7 @@ class Messages(unittest.TestCase):
         ("assert_touches(db, 'DELETE FROM p WHERE k = 1', {'P': {'delete': 1}})", "the statement touches {'P': {'delete': 1}, 'C': {'delete': 2}}, and not {'P': {'delete': 1}}\n"
          "  DELETE FROM p WHERE k = 1\naccount:\n  delete P row 1 (1)"),
         ("assert_touches(db, 'DELETE FROM p WHERE k = 7', {'P': {'delete': 1}})", "the statement touches {}, and not {'P': {'delete': 1}}\n  DELETE FROM p WHERE k = 7\naccount: nothing happened"),
-        ("assert_touches(db, 'INSERT INTO p VALUES (1)', {})", "the statement is refused\n  INSERT INTO p VALUES (1)\nViolation of P_C1: P row 1 (1) has the key of row 5 (1)"),
+        ("assert_touches(db, 'INSERT INTO p VALUES (1)', {})", "the statement is refused\n  INSERT INTO p VALUES (1)\nViolation of P_C1 (PRIMARY KEY (K)): P row 1 (1) has the key of row 5 (1)"),
         ("assert_accepted(db, 'INSERT INTO p VALUES (?)', (1,))", "the statement is refused\n  INSERT INTO p VALUES (?)\nViolation of P_C1"),
         ("db.execute('INSERT INTO p VALUES (1)')", "- the refused statement -"),
     ]

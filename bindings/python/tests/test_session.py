@@ -103,8 +103,8 @@ class Outcomes(unittest.TestCase):
 
     def test_a_refusal_is_an_outcome(self):
         outcome = self.session.execute("INSERT INTO p VALUES (NULL)")
-        self.assertEqual(str(outcome.error), "Violation of P_C1: P row 1 (NULL) has a null in its key")
-        self.assertEqual(str(outcome.account), "  insert P row 1 (NULL)\n  P_C1: P row 1 (NULL) has a null in its key\n")
+        self.assertEqual(str(outcome.error), "Violation of P_C1 (PRIMARY KEY (K)): P row 1 (NULL) has a null in its key")
+        self.assertEqual(str(outcome.account), "  insert P row 1 (NULL)\n  P_C1 (PRIMARY KEY (K)): P row 1 (NULL) has a null in its key\n")
         with self.assertRaises(sqlkeep.IntegrityError):
             outcome.check()
 

@@ -111,8 +111,8 @@ class Showing(unittest.TestCase):
     def test_nothing_in_a_refusal_moves_it(self):
         given = ".explain on\nCREATE TABLE t (a VARCHAR(20) CHECK (a = 'x'));\nINSERT INTO t VALUES ('\x1b[2Ja\rb');\nSELECT '\x1b' FRM\tt;\n"
         output, errors, _ = ran(given)
-        self.assertEqual(output, "ok\n  insert T row 1 ('\\x1b[2Ja\\rb')\n  T_C1: T row 1 ('\\x1b[2Ja\\rb') makes its condition false\n")
-        self.assertEqual(errors, "Refused: Violation of T_C1: T row 1 ('\\x1b[2Ja\\rb') makes its condition false\nNo statement at line 1, column 1: a SELECT has a FROM\n  SELECT '\\x1b' FRM\tt;\n  ^\n")
+        self.assertEqual(output, "ok\n  insert T row 1 ('\\x1b[2Ja\\rb')\n  T_C1 (CHECK): T row 1 ('\\x1b[2Ja\\rb') makes A = 'x' false ('\\x1b[2Ja\\rb' = 'x')\n")
+        self.assertEqual(errors, "Refused: Violation of T_C1 (CHECK): T row 1 ('\\x1b[2Ja\\rb') makes A = 'x' false ('\\x1b[2Ja\\rb' = 'x')\nNo statement at line 1, column 1: a SELECT has a FROM\n  SELECT '\\x1b' FRM\tt;\n  ^\n")
 
     def test_widths(self):
         self.assertEqual([width_of(text) for text in ("abc", "日本", "é", "e\u0301")], [3, 4, 1, 1])

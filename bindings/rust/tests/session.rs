@@ -70,7 +70,7 @@ fn a_refusal_says_what_it_is_about() {
     let mut session = books();
     let refusal = refused(session.execute("INSERT INTO book VALUES ('Emma', 'Austen', 0)", ()).unwrap_err());
     assert_eq!((refusal.cause, refusal.constraint.as_deref(), refusal.row), (Cause::Violation, Some("SOME"), Some(2)));
-    assert_eq!(refusal.reasons, ["SOME: BOOK row 2 ('Emma', 'Austen', 0) makes its condition false"]);
+    assert_eq!(refusal.reasons, ["SOME: BOOK row 2 ('Emma', 'Austen', 0) makes PAGES > 0 false (0 > 0)"]);
     let refusal = refused(session.execute("INSERT INTO boook VALUES (1)", ()).unwrap_err());
     assert_eq!((refusal.cause, &refusal.reasons[..]), (Cause::Unknown, &["table BOOOK isn't there".to_string()][..]));
     assert_eq!(session.message().as_deref(), Ok("refused: Unknown: table BOOOK isn't there"));
@@ -134,7 +134,7 @@ fn a_batch_ends_at_the_first_refusal() {
     let mut session = Session::open().unwrap();
     let refusal = refused(session.execute_batch("CREATE TABLE t (a INT PRIMARY KEY); INSERT INTO t VALUES (1); INSERT INTO t VALUES (1); COMMIT;").unwrap_err());
     assert_eq!((refusal.statement, refusal.cause), (2, Cause::Violation));
-    assert_eq!(refusal.to_string(), "Violation: T_C1: T row 1 (1) has the key of row 2 (1) (statement 3)");
+    assert_eq!(refusal.to_string(), "Violation: T_C1 (PRIMARY KEY (A)): T row 1 (1) has the key of row 2 (1) (statement 3)");
     assert!(session.in_transaction());
     session.rollback();
     assert_eq!(session.query_one::<(u64,)>("SELECT COUNT(*) FROM t", ()), Ok((0,)));

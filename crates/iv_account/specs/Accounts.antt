@@ -1,5 +1,6 @@
 -- The account of a data statement: the waves as they were applied, with the foreign keys that act after each; the triggers that were
--- asked, with what they saw; the same of the data statements of their bodies; and the rows that a refusal is about.
+-- asked, with what they saw; the same of the data statements of their bodies; the rows that a refusal is about; and what failed, where a
+-- number is out of range or a text is too long.
 use Rattle.std.specs.Prelude.{ℕ, zero, suc, ◌+◌, ◌-◌, Bool, true, false, if◌then◌else◌, nat_lt, List, [], ◌∷◌, ◌++◌, filter, flat_map, find, slice_get, Option, Some, None, Result, Ok, Err}
 use Rattle.iv_machine.specs.Types.{StoredRow, Change, TableColumn, ReferentialAction, BodyStatement, DataStatement, Trigger, NullTreatment, Constraint, Rule, Cause, Fault}
 use Rattle.iv_machine.specs.declared.database.Database.{Database}
@@ -8,7 +9,7 @@ use Rattle.iv_machine.specs.Types.rule
 use Rattle.iv_machine.specs.Types.nulls.{Distinct}
 use Rattle.iv_machine.specs.Types.body
 use Rattle.iv_machine.specs.declared.database.Which.TheVariants.{Immediate}
-use Rattle.iv_machine.specs.Types.cause.{Restrict, ActionConflict}
+use Rattle.iv_machine.specs.Types.cause.{NumberOutOfRange, TextTooLong, Restrict, ActionConflict}
 use Rattle.iv_expr.specs.Changes.{Wave}
 use Rattle.iv_value.specs.Truths.{is_true}
 use Rattle.iv_value.specs.declared.value.Truth.{Truth}
@@ -16,11 +17,12 @@ use Rattle.iv_value.specs.declared.value.Truth.TheVariants.{True}
 use Rattle.iv_expr.specs.Evaluation.{truth}
 use Rattle.iv_expr.specs.Scopes.{Frame, no_frame, scope_of, table_rows}
 use Rattle.iv_catalogue.specs.Catalogues.{Schema}
+use Rattle.iv_catalogue.specs.Refusals.{cause_of}
 use Rattle.iv_machine.specs.Bounds.{most_changes_in_a_transaction}
 use Rattle.iv_machine.specs.Databases.{row_at, shares_key, scan, is_chosen, first, size, database_after}
 use Rattle.iv_machine.specs.Context.{Context, while_running, each}
 use Rattle.iv_machine.specs.Proposals.{proposed_wave}
-use Rattle.iv_machine.specs.BeforeTriggers.{for_each_row, is_before_row_on, is_before_this, is_on, event_of_change, placed_statements, before_statement_run, before_statement, change_frame, change_after_trigger}
+use Rattle.iv_machine.specs.BeforeTriggers.{for_each_row, is_before_row_on, is_before_this, is_on, event_of_change, placed_statements, before_statement_run, before_statement, change_frame, change_after_set, change_after_statement, change_after_trigger}
 use Rattle.iv_machine.specs.ReferentialActions.{Reference, references, Loss, LostKeys, lost_keys, lost_reference, action_on, keeps_reference, effects_on, following_wave}
 use Rattle.iv_machine.specs.Waves.{numbered_wave, is_beyond_last_row, wave_as_applied, is_empty, one_wave, settled_waves, net_wave}
 use Rattle.iv_machine.specs.Levels.{Firing, Progress, Runs, statement_run, firing_run, firings, level_columns, immediate_check, nested_level}
@@ -28,8 +30,10 @@ use Rattle.iv_account.specs.declared.entry.RowAction.{RowAction}
 use Rattle.iv_account.specs.declared.entry.TriggerView.{TriggerView}
 use Rattle.iv_account.specs.declared.entry.Disagreement.{Disagreement}
 use Rattle.iv_account.specs.declared.entry.Entry.{Entry}
-use Rattle.iv_account.specs.declared.entry.Entry.TheVariants.{Changed, Acted, Ran, Skipped, Began, Ended, Faulted, Disagreed}
+use Rattle.iv_account.specs.declared.entry.Entry.TheVariants.{Changed, Acted, Ran, Skipped, Began, Ended, Faulted, Disagreed, Failed}
+use Rattle.iv_account.specs.declared.failure.FailedEvaluation.{FailedEvaluation}
 use Rattle.iv_account.specs.Disagreements.{disagreement}
+use Rattle.iv_account.specs.Failures.{proposal_failure, set_failure, when_failure}
 
 -- ---- one after another
 
@@ -37,6 +41,11 @@ use Rattle.iv_account.specs.Disagreements.{disagreement}
 abbrev pub unless_refused : {A E : Type 0} → Result A E → (A → List Entry) → List Entry
 unless_refused (Ok a) rest = rest a
 unless_refused (Err e) rest = []
+
+-- what is told after a step, and if it is refused of its refusal
+abbrev pub told_or : {A E : Type 0} → Result A E → (E → List Entry) → (A → List Entry) → List Entry
+told_or (Ok a) refused rest = rest a
+told_or (Err e) refused rest = refused e
 
 -- what is told of each of `each`, and of each in turn of `in_turn`, as long as none is refused
 abbrev pub told_each : {A B E : Type 0} → (A → Result B E) → (A → List Entry) → List A → List Entry
@@ -100,6 +109,17 @@ action_fault_told schema rows later (ActionConflict fault) =
     conflict_told fault (if_some (row_at rows fault.row)) (disagreement_at schema rows later fault) ∷ []
 action_fault_told schema rows later _ = []
 
+-- an account tells what failed where a statement is refused for this cause
+abbrev pub tells_failure : Cause → Bool
+tells_failure NumberOutOfRange = true
+tells_failure TextTooLong = true
+tells_failure _ = false
+
+-- what failed, if this is the cause of it
+abbrev pub failure_told : Cause → Option FailedEvaluation → List Entry
+failure_told cause None = []
+failure_told cause (Some failure) = if tells_failure cause then Failed failure ∷ [] else []
+
 -- ---- BEFORE triggers
 
 -- What a trigger saw. One for each row is told only its two sides, so that all of them together are no longer than the transitions.
@@ -120,9 +140,14 @@ abbrev pub ran_or_skipped : Trigger → Frame → Truth → Entry
 ran_or_skipped t frame True = ran t frame
 ran_or_skipped t frame when = skipped t frame when
 
--- so by the truth of its WHEN, unless that is at fault
+-- what is told of a trigger by the truth of its WHEN, or what failed in it
+abbrev pub when_told : List StoredRow → Trigger → Frame → (Truth → List Entry) → List Entry
+when_told rows t frame rest =
+    told_or (truth (scope_of frame rows) t.when) (λ fault. failure_told (cause_of fault) (when_failure rows t frame)) rest
+
+-- it runs or is skipped by that truth
 abbrev pub trigger_told : List StoredRow → Trigger → Frame → List Entry
-trigger_told rows t frame = unless_refused (truth (scope_of frame rows) t.when) (λ when. ran_or_skipped t frame when ∷ [])
+trigger_told rows t frame = when_told rows t frame (λ when. ran_or_skipped t frame when ∷ [])
 
 -- The BEFORE statement triggers of a statement, in creation order.
 abbrev pub before_statement_told : Context → List StoredRow → DataStatement → List Entry
@@ -130,13 +155,30 @@ before_statement_told context rows statement =
     told_in_turn (λ t _. while_running t.id (before_statement_run rows t)) (λ t _. trigger_told rows t no_frame)
     (filter (is_before_this statement) context.schema.triggers) tt
 
+-- what failed in a statement of its body on a change, which is nothing unless it is a SET that is refused
+abbrev pub set_told : Context → List StoredRow → BodyStatement → Change → List Entry
+set_told context rows (body.Set s) c =
+    told_or (change_after_set context rows s c) (λ cause. failure_told cause (set_failure context.schema rows s c)) (λ _. [])
+set_told context rows _ c = []
+
+-- in its body, statement after statement
+abbrev pub sets_told : Context → List StoredRow → Trigger → Change → List Entry
+sets_told context rows t c =
+    told_in_turn (λ s. change_after_statement context rows t s.0 s.1) (λ s. set_told context rows s.1) (placed_statements t) c
+
+-- a BEFORE row trigger whose WHEN has this truth on a change, and its body, if that is true
+abbrev pub before_row_run_told : Context → List StoredRow → Trigger → Change → Truth → List Entry
+before_row_run_told context rows t c when =
+    ran_or_skipped t (change_frame c) when ∷ (if is_true when then sets_told context rows t c else [])
+
 -- a BEFORE row trigger on a change, if it is on the change's table and event
-abbrev pub before_row_told : List StoredRow → Trigger → Change → List Entry
-before_row_told rows t c = if is_on c.table (event_of_change c) t then trigger_told rows t (change_frame c) else []
+abbrev pub before_row_told : Context → List StoredRow → Trigger → Change → List Entry
+before_row_told context rows t c =
+    if is_on c.table (event_of_change c) t then when_told rows t (change_frame c) (before_row_run_told context rows t c) else []
 
 -- a BEFORE row trigger on each of these changes
 abbrev pub before_each_told : Context → List StoredRow → Trigger → List Change → List Entry
-before_each_told context rows t changes = told_each (change_after_trigger context rows t) (before_row_told rows t) changes
+before_each_told context rows t changes = told_each (change_after_trigger context rows t) (before_row_told context rows t) changes
 
 -- BEFORE row triggers on these changes, one trigger after the other
 abbrev pub before_triggers_told : Context → List StoredRow → List Trigger → List Change → List Entry
@@ -252,8 +294,7 @@ fired_told run tell x at when =
 
 -- a trigger that is asked: WHEN sees the database of its moment
 abbrev pub firing_told : Runs → Tells → Firing → Progress → List Entry
-firing_told run tell x at =
-    unless_refused (truth (scope_of x.frame at.database.rows) x.trigger.when) (fired_told run tell x at)
+firing_told run tell x at = when_told at.database.rows x.trigger x.frame (fired_told run tell x at)
 
 -- all triggers that are asked, one after another
 abbrev pub firings_told : Runs → Tells → List Firing → Progress → List Entry
@@ -282,11 +323,17 @@ waves_and_after_told run tell context statement db budget wave =
     finished_told run tell context statement (level_columns statement s.waves) (net_wave db.rows s.last.rows s.waves)
     (record { database = s.last; budget = s.rest }))
 
+-- what a statement proposes, or what failed in it
+abbrev pub proposal_told : Context → DataStatement → Frame → Database → (Wave → List Entry) → List Entry
+proposal_told context statement frame db rest =
+    told_or (proposed_wave context db frame statement)
+    (λ cause. failure_told cause (proposal_failure context.schema db.rows frame statement)) rest
+
 -- The steps of a level, in the order of `level_steps`: what the statement proposes; its BEFORE statement triggers; the waves; the
 -- check of the immediate constraints; and the AFTER triggers.
 abbrev pub level_steps_told : Runs → Tells → Context → DataStatement → Frame → Database → ℕ → List Entry
 level_steps_told run tell context statement frame db budget =
-    unless_refused (proposed_wave context db frame statement) (λ wave.
+    proposal_told context statement frame db (λ wave.
     before_statement_told context db.rows statement
     ++ unless_refused (before_statement context db.rows statement) (λ _.
     waves_and_after_told run tell context statement db budget wave))

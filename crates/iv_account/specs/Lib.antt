@@ -1,4 +1,5 @@
 pub mod Accounts
 pub mod Disagreements
+pub mod Failures
 pub mod Telling
 pub mod Sessions

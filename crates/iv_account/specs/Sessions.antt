@@ -1,18 +1,24 @@
--- What is told of a resolved statement: of a data statement, and of the violations for which COMMIT and SET CONSTRAINTS are refused.
+-- What is told of a resolved statement: of a data statement, of what failed in a query, and of the violations for which COMMIT and SET
+-- CONSTRAINTS are refused.
 use Rattle.std.specs.Prelude.{ℕ, ◌-◌, Bool, true, false, ◌&&◌, not, if◌then◌else◌, List, [], find, Some, None}
-use Rattle.iv_machine.specs.Types.{ConstraintMode, DataStatement, Plan, TransactionPlan}
+use Rattle.iv_machine.specs.Types.{ConstraintMode, DataStatement, Plan, QueryPlan, TransactionPlan}
 use Rattle.iv_machine.specs.Types.plan
 use Rattle.iv_machine.specs.Types.transaction
 use Rattle.iv_machine.specs.declared.database.Which.TheVariants.{All}
 use Rattle.iv_expr.specs.Scopes.{no_frame}
 use Rattle.iv_machine.specs.Databases.{scan, is_chosen, is_deferred}
-use Rattle.iv_machine.specs.Machine.{State, constraints_meant, context_of, is_deferrable, is_open, with_modes}
+use Rattle.iv_machine.specs.Machine.{State, constraints_meant, context_of, is_deferrable, is_open, query_outcome, with_modes}
 use Rattle.iv_account.specs.declared.entry.Entry.{Entry}
-use Rattle.iv_account.specs.Accounts.{account, faults_told}
+use Rattle.iv_account.specs.Accounts.{account, failure_told, faults_told, told_or}
+use Rattle.iv_account.specs.Failures.{query_failure}
 
 -- The statement is at depth 1, and has the whole budget.
 abbrev pub change_told : State → DataStatement → List Entry
 change_told s d = account (s.limits.depth - 1) (context_of s) d no_frame s.database s.limits.changes
+
+-- what failed in a query
+abbrev pub query_told : State → QueryPlan → List Entry
+query_told s q = told_or (query_outcome s q).answer (λ refusal. failure_told refusal.cause (query_failure s.database.rows q)) (λ _. [])
 
 -- all violations of all constraints, inside a transaction
 abbrev pub commit_told : State → List Entry
@@ -41,6 +47,7 @@ transaction_told s _ = []
 -- What is told of a resolved statement.
 abbrev pub plan_told : State → Plan → List Entry
 plan_told s (plan.Change d) = change_told s d
+plan_told s (plan.Query q) = query_told s q
 plan_told s (plan.Transaction p) = transaction_told s p
 plan_told s _ = []
 

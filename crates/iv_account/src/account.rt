@@ -1,12 +1,13 @@
 //! The list that records the account of a statement.
-ghost use Rattle.std.specs.Prelude.{◌≡◌, [], ◌∷◌, false, Ok, IfOk, OnOk};
+ghost use Rattle.std.specs.Prelude.{◌≡◌, [], ◌∷◌, false, Some, Ok, IfOk, OnOk};
 ghost use Rattle.std.specs.Option.{option_copied};
-ghost use Rattle.iv_account.specs.Accounts.{conflict_told, ran_or_skipped, seen};
+ghost use Rattle.iv_account.specs.Accounts.{conflict_told, failure_told, ran_or_skipped, seen, tells_failure};
 ghost use Rattle.iv_account.specs.Telling.{and_told, no_account, untold_account};
 ghost use Rattle.iv_account.specs.declared.entry.Entry.TheVariants as entry;
 
 use crate::entry::{Disagreement, Entry, RowAction, SkippedView, TriggerView};
-use iv_catalogue::{Fault, Trigger};
+use crate::failure::FailedEvaluation;
+use iv_catalogue::{Cause, Fault, Trigger};
 use iv_expr::{Change, Frame, Row, StoredRow};
 use iv_syntax::Granularity;
 use iv_value::{Truth, Value};
@@ -83,6 +84,13 @@ fn ran_or_skipped(
     }
 }
 
+/// Whether an account tells what failed where a statement is refused for this cause.
+pub fn tells_failure(cause: &Cause) -> bool
+    ensures { result ≡ tells_failure cause.now }
+{
+    matches!(cause, Cause::NumberOutOfRange | Cause::TextTooLong)
+}
+
 /// The entries so far if an account is asked for, and otherwise nothing. Without an account no call allocates. If an
 /// allocation fails, nothing is said of the entries.
 pub struct Account {
@@ -145,6 +153,11 @@ impl Account {
         ensures { result ≡ self.now.untold }
     {
         self.untold
+    }
+
+    /// Where it takes its memory from.
+    pub fn allocator(&self) -> Global {
+        *self.entries.allocator()
     }
 
     /// The entries, in order.
@@ -241,6 +254,35 @@ impl Account {
         match how {
             Some(how) => self.add(Entry::Disagreed(fault, Items::from_vec(rows), how)),
             None => self.faulted(fault, rows),
+        }
+    }
+
+    // Records this failure, if the cause tells of one.
+    fn failed_by(&mut self, cause: &Cause, failure: FailedEvaluation) -> Result<(), AllocError>
+        ensures told { OnOk result (self.new
+            ≡ and_told self.old (failure_told cause.now (Some failure))) }
+        ensures unasked { self.old.asked ≡ false → result ≡ Ok tt }
+    {
+        if tells_failure(cause) {
+            self.add(Entry::Failed(failure))
+        } else {
+            drop(failure);
+            Ok(())
+        }
+    }
+
+    /// Records what failed, if this is the cause of a number that is out of range or of a text that is too long.
+    pub fn failed(
+        &mut self,
+        cause: &Cause,
+        failure: Option<FailedEvaluation>,
+    ) -> Result<(), AllocError>
+        ensures told { OnOk result (self.new ≡ and_told self.old (failure_told cause.now failure)) }
+        ensures unasked { self.old.asked ≡ false → result ≡ Ok tt }
+    {
+        match failure {
+            Some(failure) => self.failed_by(cause, failure),
+            None => Ok(()),
         }
     }
 }

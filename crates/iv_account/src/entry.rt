@@ -1,4 +1,5 @@
 //! The entries of an account.
+use crate::failure::FailedEvaluation;
 use iv_catalogue::{ConstraintId, Fault, TriggerId};
 use iv_expr::{Change, Row, StoredRow, TableId};
 use iv_syntax::ReferentialAction;
@@ -66,4 +67,6 @@ pub enum Entry {
     Faulted(Fault, Items<StoredRow>),
     /// The later of two foreign keys that disagree about a row, the row as it was before the wave, and how they disagree.
     Disagreed(Fault, Items<StoredRow>, Disagreement),
+    /// What failed, where the statement is refused because a number is out of range or a text is too long.
+    Failed(FailedEvaluation),
 }

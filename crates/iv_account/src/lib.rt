@@ -4,7 +4,9 @@
 mod account;
 mod entry;
 mod equal;
+mod failure;
 mod fault;
 
-pub use account::Account;
+pub use account::{Account, tells_failure};
 pub use entry::{Disagreement, Entry, RowAction, SkippedView, TriggerView};
+pub use failure::{EvaluatedFor, FailedEvaluation, Operator, RowAtHand, ValueFailure};

@@ -1,8 +1,12 @@
 -- What C reads of an account, entry by entry and item by item. Places count from 0.
 use Rattle.std.specs.Prelude.{ℕ, zero, suc, Bool, List, length, is_some, if◌then◌else◌, slice_get, Option, Some, None, option_and_then, option_map}
 use Rattle.iv_account.specs.declared.entry.Entry.{Entry}
-use Rattle.iv_account.specs.declared.entry.Entry.TheVariants.{Changed, Acted, Ran, Skipped, Began, Ended, Faulted, Disagreed}
+use Rattle.iv_account.specs.declared.entry.Entry.TheVariants.{Changed, Acted, Ran, Skipped, Began, Ended, Faulted, Disagreed, Failed}
 use Rattle.iv_account.specs.declared.entry.Disagreement.{Disagreement}
+use Rattle.iv_account.specs.declared.failure.EvaluatedFor.{EvaluatedFor}
+use Rattle.iv_account.specs.declared.failure.EvaluatedFor.TheVariants.{When}
+use Rattle.iv_account.specs.declared.failure.RowAtHand.{RowAtHand}
+use Rattle.iv_account.specs.declared.failure.RowAtHand.TheVariants as hand
 use Rattle.iv_account.specs.declared.entry.RowAction.{RowAction}
 use Rattle.iv_account.specs.declared.entry.TriggerView.{TriggerView}
 use Rattle.iv_catalogue.specs.Catalogues.{Schema}
@@ -29,6 +33,34 @@ unknown_flag _ = 0
 abbrev pub no_entry : ShownEntry
 no_entry = record { kind = 0; statement = 0; constraint = 0; has_old = 0; has_new = 0; is_unknown = 0; items = 0; row = 0 }
 
+-- the values of a row before a change, on side 0, and after it, on side 1
+abbrev pub side_of : Option (List Value) → Option (List Value) → ℕ → Option (List Value)
+side_of old new zero = old
+side_of old new (suc zero) = new
+side_of old new (suc (suc n)) = None
+
+-- the row of a table at which something failed
+abbrev pub hand_row : RowAtHand → Option StoredRow
+hand_row (hand.Row r) = Some r
+hand_row (hand.Source r) = Some r
+hand_row (hand.Variables old new) = None
+
+-- OLD, on side 0, and NEW, on side 1, where no row of a table is at hand
+abbrev pub hand_side : RowAtHand → ℕ → Option (List Value)
+hand_side (hand.Row r) side = None
+hand_side (hand.Source r) side = None
+hand_side (hand.Variables old new) side = side_of old new side
+
+-- the trigger whose WHEN failed
+abbrev pub when_of : EvaluatedFor → Option ℕ
+when_of (When id) = Some id
+when_of _ = None
+
+-- the first item is the row at hand
+abbrev pub hand_item : RowAtHand → ℕ → Option StoredRow
+hand_item r zero = hand_row r
+hand_item r (suc n) = None
+
 -- what kind of entry it is, and what it tells besides its items
 abbrev pub entry_shown : Entry → ShownEntry
 entry_shown (Changed changes) = record no_entry { items = length changes }
@@ -41,11 +73,14 @@ entry_shown (Began place) = record no_entry { kind = 3; statement = place }
 entry_shown Ended = record no_entry { kind = 4 }
 entry_shown (Faulted fault rows) = record no_entry { kind = 5; constraint = fault.constraint; items = length rows; row = fault.row }
 entry_shown (Disagreed fault rows how) = record no_entry { kind = 7; constraint = fault.constraint; items = length rows; row = fault.row }
+entry_shown (Failed f) =
+    record no_entry { kind = 8; has_old = flag (is_some (hand_side f.row 0)); has_new = flag (is_some (hand_side f.row 1)); items = flag (is_some (hand_row f.row)) }
 
--- the trigger that runs or is skipped
+-- the trigger that runs or is skipped, or whose WHEN failed
 abbrev pub entry_trigger : Schema → Entry → Option (List ℕ)
 entry_trigger s (Ran trigger seen) = Some (trigger_named s (Some trigger))
 entry_trigger s (Skipped trigger seen) = Some (trigger_named s (Some trigger))
+entry_trigger s (Failed f) = option_map (λ id. trigger_named s (Some id)) (when_of f.part)
 entry_trigger s _ = None
 
 abbrev pub change_shown : Change → ShownItem
@@ -59,20 +94,15 @@ row_action_shown a =
 abbrev pub stored_shown : StoredRow → ShownItem
 stored_shown r = record { table = r.table; constraint = 0; action = 0; has_old = 0; has_new = 1; row = r.number }
 
--- a change of a wave or of a trigger's transition tables, an action, or a row that a violation is about
+-- a change of a wave or of a trigger's transition tables, an action, a row that a violation is about, or the row at which something failed
 abbrev pub item_shown : Entry → ℕ → Option ShownItem
 item_shown (Changed changes) item = option_map change_shown (slice_get changes item)
 item_shown (Acted actions) item = option_map row_action_shown (slice_get actions item)
 item_shown (Ran trigger seen) item = option_map change_shown (slice_get seen.transition item)
 item_shown (Faulted fault rows) item = option_map stored_shown (slice_get rows item)
 item_shown (Disagreed fault rows how) item = option_map stored_shown (slice_get rows item)
+item_shown (Failed f) item = option_map stored_shown (hand_item f.row item)
 item_shown _ item = None
-
--- the values of a row before a change, on side 0, and after it, on side 1
-abbrev pub side_of : Option (List Value) → Option (List Value) → ℕ → Option (List Value)
-side_of old new zero = old
-side_of old new (suc zero) = new
-side_of old new (suc (suc n)) = None
 
 abbrev pub change_side : ℕ → Change → Option (List Value)
 change_side side c = side_of c.old c.new side
@@ -83,12 +113,14 @@ item_values (Changed changes) item side = option_and_then (change_side side) (sl
 item_values (Ran trigger seen) item side = option_and_then (change_side side) (slice_get seen.transition item)
 item_values (Faulted fault rows) item side = side_of None (option_map (λ r. r.values) (slice_get rows item)) side
 item_values (Disagreed fault rows how) item side = side_of None (option_map (λ r. r.values) (slice_get rows item)) side
+item_values (Failed f) item side = side_of None (option_map (λ r. r.values) (hand_item f.row item)) side
 item_values _ item side = None
 
 -- OLD, on side 0, and NEW, on side 1, of a trigger that runs or is skipped for a row
 abbrev pub seen_values : Entry → ℕ → Option (List Value)
 seen_values (Ran trigger seen) side = side_of seen.old seen.new side
 seen_values (Skipped trigger seen) side = side_of seen.old seen.new side
+seen_values (Failed f) side = hand_side f.row side
 seen_values _ side = None
 
 -- how two foreign keys disagree

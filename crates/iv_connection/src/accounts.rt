@@ -1,6 +1,6 @@
 //! The account of the last statement, entry by entry.
-ghost use Rattle.std.specs.Prelude.{◌≡◌, ◌≢◌, length, slice_get, IfSome, option_and_then, option_copied, option_map, is_some};
-ghost use Rattle.iv_connection.specs.Accounts.{change_shown, change_side, disagreement_at, disagreement_shown, entry_shown, entry_trigger, flag, how_in, item_at, item_shown, item_value, item_values, row_action_shown, seen_value, seen_values, set_on, set_value, side_of, stored_shown, trigger_at_entry, unknown_flag};
+ghost use Rattle.std.specs.Prelude.{◌≡◌, ◌≢◌, length, slice_get, IfSome, Some, None, option_and_then, option_copied, option_map, is_some};
+ghost use Rattle.iv_connection.specs.Accounts.{change_shown, change_side, disagreement_at, disagreement_shown, entry_shown, entry_trigger, flag, hand_item, hand_row, hand_side, how_in, item_at, item_shown, item_value, item_values, row_action_shown, seen_value, seen_values, set_on, set_value, side_of, stored_shown, trigger_at_entry, unknown_flag, when_of};
 ghost use Rattle.iv_connection.specs.Copying.{Copies};
 ghost use Rattle.iv_connection.specs.Cells.{text_of, cell_of};
 ghost use Rattle.iv_connection.specs.Statuses.{found};
@@ -11,8 +11,11 @@ use crate::constraints::action_number;
 use crate::copying::copied;
 use crate::status::{NOTHING, OK};
 use crate::texts::trigger_named;
-use iv_account::{Disagreement, Entry, RowAction, SkippedView, TriggerView};
-use iv_catalogue::{Catalogue, Fault};
+use iv_account::{
+    Disagreement, Entry, EvaluatedFor, FailedEvaluation, RowAction, RowAtHand, SkippedView,
+    TriggerView,
+};
+use iv_catalogue::{Catalogue, Fault, TriggerId};
 use iv_expr::{Change, Row, StoredRow};
 use iv_value::{Truth, Value};
 
@@ -146,6 +149,68 @@ fn counted(kind: u32, statement: u32, items: u64) -> ShownEntry
     }
 }
 
+// The row of a table at which something failed.
+fn hand_row(hand: &RowAtHand) -> Option<&StoredRow>
+    ensures { option_copied result ≡ hand_row hand.now }
+{
+    match hand {
+        RowAtHand::Row(row) => Some(row),
+        RowAtHand::Source(row) => Some(row),
+        RowAtHand::Variables { old: _, new: _ } => None,
+    }
+}
+
+// OLD or NEW, where no row of a table is at hand.
+fn hand_side(hand: &RowAtHand, side: u32) -> Option<&[Value]>
+    ensures { option_copied result ≡ hand_side hand.now side }
+{
+    match hand {
+        RowAtHand::Row(_) => None,
+        RowAtHand::Source(_) => None,
+        RowAtHand::Variables { old, new } => side_of(old, new, side),
+    }
+}
+
+// The trigger whose WHEN failed.
+fn when_of(part: EvaluatedFor) -> Option<TriggerId>
+    ensures { result ≡ when_of part }
+{
+    match part {
+        EvaluatedFor::When(id) => Some(id),
+        _ => None,
+    }
+}
+
+fn hand_item(hand: &RowAtHand, item: usize) -> Option<&StoredRow>
+    ensures { option_copied result ≡ hand_item hand.now item }
+{
+    if item == 0 { hand_row(hand) } else { None }
+}
+
+fn failed_shown(failed: &FailedEvaluation) -> ShownEntry
+    ensures { result ≡ record {
+      kind = 8;
+      statement = 0;
+      constraint = 0;
+      has_old = flag (is_some (hand_side failed.now.row 0));
+      has_new = flag (is_some (hand_side failed.now.row 1));
+      is_unknown = 0;
+      items = flag (is_some (hand_row failed.now.row));
+      row = 0;
+    } }
+{
+    ShownEntry {
+        kind: 8,
+        statement: 0,
+        constraint: 0,
+        has_old: flag(hand_side(&failed.row, 0).is_some()),
+        has_new: flag(hand_side(&failed.row, 1).is_some()),
+        is_unknown: 0,
+        items: u64::from(flag(hand_row(&failed.row).is_some())),
+        row: 0,
+    }
+}
+
 pub fn entry_shown(entry: &Entry) -> ShownEntry
     ensures { result ≡ entry_shown entry.now }
 {
@@ -158,6 +223,16 @@ pub fn entry_shown(entry: &Entry) -> ShownEntry
         Entry::Ended => counted(4, 0, 0),
         Entry::Faulted(fault, rows) => fault_shown(5, fault, rows.len() as u64),
         Entry::Disagreed(fault, rows, _) => fault_shown(7, fault, rows.len() as u64),
+        Entry::Failed(failed) => failed_shown(failed),
+    }
+}
+
+fn trigger_of_when<'a>(catalogue: &'a Catalogue, part: EvaluatedFor) -> Option<&'a [u8]>
+    ensures { option_copied result ≡ option_map (λ id. trigger_named catalogue.now (Some id)) (when_of part) }
+{
+    match when_of(part) {
+        Some(id) => Some(trigger_named(catalogue, Some(id))),
+        None => None,
     }
 }
 
@@ -167,6 +242,7 @@ fn entry_trigger<'a>(catalogue: &'a Catalogue, entry: &Entry) -> Option<&'a [u8]
     match entry {
         Entry::Ran(trigger, _) => Some(trigger_named(catalogue, Some(*trigger))),
         Entry::Skipped(trigger, _) => Some(trigger_named(catalogue, Some(*trigger))),
+        Entry::Failed(failed) => trigger_of_when(catalogue, failed.part),
         _ => None,
     }
 }
@@ -237,6 +313,15 @@ fn stored_item(rows: &[StoredRow], item: usize) -> Option<ShownItem>
     }
 }
 
+fn hand_shown(hand: &RowAtHand, item: usize) -> Option<ShownItem>
+    ensures { result ≡ option_map stored_shown (hand_item hand.now item) }
+{
+    match hand_item(hand, item) {
+        Some(row) => Some(stored_shown(row)),
+        None => None,
+    }
+}
+
 fn item_shown(entry: &Entry, item: usize) -> Option<ShownItem>
     ensures { result ≡ item_shown entry.now item }
 {
@@ -246,6 +331,7 @@ fn item_shown(entry: &Entry, item: usize) -> Option<ShownItem>
         Entry::Ran(_, seen) => change_item(seen.transition.as_slice(), item),
         Entry::Faulted(_, rows) => stored_item(rows.as_slice(), item),
         Entry::Disagreed(_, rows, _) => stored_item(rows.as_slice(), item),
+        Entry::Failed(failed) => hand_shown(&failed.row, item),
         _ => None,
     }
 }
@@ -291,6 +377,18 @@ fn stored_values(rows: &[StoredRow], item: usize, side: u32) -> Option<&[Value]>
     }
 }
 
+fn hand_values(hand: &RowAtHand, item: usize, side: u32) -> Option<&[Value]>
+    ensures { option_copied result ≡ side_of None (option_map (λ r. r.values) (hand_item hand.now item)) side }
+{
+    if side != 1 {
+        return None;
+    }
+    match hand_item(hand, item) {
+        Some(row) => Some(row.values.values()),
+        None => None,
+    }
+}
+
 fn item_values(entry: &Entry, item: usize, side: u32) -> Option<&[Value]>
     ensures { option_copied result ≡ item_values entry.now item side }
 {
@@ -299,6 +397,7 @@ fn item_values(entry: &Entry, item: usize, side: u32) -> Option<&[Value]>
         Entry::Ran(_, seen) => change_values(seen.transition.as_slice(), item, side),
         Entry::Faulted(_, rows) => stored_values(rows.as_slice(), item, side),
         Entry::Disagreed(_, rows, _) => stored_values(rows.as_slice(), item, side),
+        Entry::Failed(failed) => hand_values(&failed.row, item, side),
         _ => None,
     }
 }
@@ -309,6 +408,7 @@ fn seen_values(entry: &Entry, side: u32) -> Option<&[Value]>
     match entry {
         Entry::Ran(_, seen) => side_of(&seen.old, &seen.new, side),
         Entry::Skipped(_, seen) => side_of(&seen.old, &seen.new, side),
+        Entry::Failed(failed) => hand_side(&failed.row, side),
         _ => None,
     }
 }

@@ -106,6 +106,7 @@ fn show_entry(rt: &HostRuntime, catalogue: &Catalogue, entry: &Entry) -> io::Res
         Entry::Ended => println!(rt; "it ends"),
         Entry::Faulted(fault, _) => show_fault(rt, catalogue, fault),
         Entry::Disagreed(fault, _, _) => show_fault(rt, catalogue, fault),
+        Entry::Failed(_) => println!(rt; "a number is out of range, or a text is too long"),
     }
 }
 

@@ -13,7 +13,7 @@ use Rattle.iv_catalogue.specs.declared.plan.Trigger.{Trigger}
 use Rattle.iv_machine.specs.BeforeTriggers.{before_row_run, before_statement, before_statement_run, change_after_trigger, change_frame, changes_after_triggers, event_of_change, is_before_row_on, is_before_statement, is_before_this, is_on, is_on_columns, same_event}
 use Rattle.iv_machine.specs.Context.{Context, each, in_turn, while_running}
 use Rattle.iv_machine.specs.Proposals.{event_of, set_columns, table_of}
-use Rattle.iv_account.specs.Accounts.{before_each_told, before_rows_told, before_statement_told, before_triggers_told, trigger_told, told_in_turn, unless_refused}
+use Rattle.iv_account.specs.Accounts.{before_each_told, before_rows_told, before_statement_told, before_row_run_told, before_triggers_told, trigger_told, told_in_turn, unless_refused, when_told}
 use Rattle.iv_account.specs.Telling.{Account, and_told}
 use Rattle.iv_account.proofs.Telling.{told_none}
 use Rattle.iv_exec_context.specs.Triggered.{has_trigger, some_have_triggers}
@@ -98,7 +98,7 @@ each_untold : (context : Context) (rows : List StoredRow) (t : Trigger) (changes
 each_untold context rows t [] e = refl
 each_untold context rows t (c ∷ changes) e =
     let parts = or_parts (t.table == c.table) (apart t changes) e in
-    ap (λ b. (if b then trigger_told rows t (change_frame c) else [])
+    ap (λ b. (if b then when_told rows t (change_frame c) (before_row_run_told context rows t c) else [])
     ++ unless_refused (if b then while_running t.id (before_row_run context rows t c) else Ok c) (λ _. before_each_told context rows t changes))
     (not_on c.table (event_of_change c) t parts.0)
     ∙ each_untold context rows t changes parts.1

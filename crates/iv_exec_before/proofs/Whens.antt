@@ -10,7 +10,7 @@ use Rattle.iv_catalogue.specs.declared.cause.Cause.{Cause}
 use Rattle.iv_catalogue.specs.Refusals.{cause_of}
 use Rattle.iv_machine.specs.Proposals.{holds, with_cause}
 use Rattle.iv_account.specs.declared.entry.Entry.{Entry}
-use Rattle.iv_account.specs.Accounts.{unless_refused}
+use Rattle.iv_account.specs.Accounts.{told_or}
 
 pub effect_of_truth : (s : Scope) (c : Cond) → holds s c ≡ and_then (with_cause (truth s c)) (λ t. Ok (is_true t))
 effect_of_truth s c = by (truth s c)
@@ -20,9 +20,10 @@ effect_of_truth s c = by (truth s c)
     by (Ok t) = refl
     by (Err fault) = refl
 
-pub told_of_truth : (s : Scope) (c : Cond) (tell : Truth → List Entry) → unless_refused (truth s c) tell ≡ unless_refused (with_cause (truth s c)) tell
-told_of_truth s c tell = by (truth s c)
+pub told_of_truth : (s : Scope) (c : Cond) (failed : Cause → List Entry) (tell : Truth → List Entry)
+    → told_or (truth s c) (λ fault. failed (cause_of fault)) tell ≡ told_or (with_cause (truth s c)) failed tell
+told_of_truth s c failed tell = by (truth s c)
   where
-    by : (r : Result Truth ExprFault) → unless_refused r tell ≡ unless_refused (with_cause r) tell
+    by : (r : Result Truth ExprFault) → told_or r (λ fault. failed (cause_of fault)) tell ≡ told_or (with_cause r) failed tell
     by (Ok t) = refl
     by (Err fault) = refl

@@ -1,15 +1,20 @@
 //! BEFORE triggers: those of a statement, and those of the rows of a wave ("Execution of BEFORE triggers").
-ghost use Rattle.std.specs.Prelude.{◌≡◌, ◌≤◌, ◌<◌, ◌+◌, ◌^◌, ◌&&◌, false, List, [], ◌∷◌, length, slice_set, filter, IfOk, Ok, OnOk};
+ghost use Rattle.std.specs.Prelude.{◌≡◌, ◌≤◌, ◌<◌, ◌+◌, ◌^◌, ◌&&◌, false, if◌then◌else◌, List, [], ◌∷◌, length, slice_set, filter, IfOk, Ok, OnOk};
 ghost use Rattle.iv_value.specs.declared.value.Truth.{Truth as TruthValue};
 ghost use Rattle.iv_value.specs.Truths.{is_true};
 ghost use Rattle.std.specs.List.{enumerate_from};
-ghost use Rattle.iv_account.specs.Accounts.{before_each_told, before_row_told, before_rows_told, before_statement_told};
-ghost use Rattle.iv_account.specs.Accounts.{before_triggers_told, ran_or_skipped, told_in_turn, trigger_told, unless_refused};
+ghost use Rattle.iv_account.specs.Accounts.{before_each_told, before_row_run_told, before_row_told, before_rows_told, before_statement_told};
+ghost use Rattle.iv_account.specs.Accounts.{before_triggers_told, failure_told, ran_or_skipped, set_told, sets_told, told_in_turn, told_or};
+ghost use Rattle.iv_account.specs.Accounts.{trigger_told, when_told};
+ghost use Rattle.iv_account.specs.Failures.{when_failure};
 ghost use Rattle.iv_account.specs.declared.entry.Entry.{Entry};
 ghost use Rattle.iv_account.specs.Telling.{and_told};
 ghost use Rattle.iv_exec_before.specs.Recording.{Records};
 ghost use Rattle.iv_catalogue.specs.Catalogues.{BodiesWithinLimit};
+ghost use Rattle.iv_catalogue.specs.Refusals.{cause_of};
+ghost use Rattle.iv_catalogue.specs.declared.cause.Cause.{Cause as CauseValue};
 ghost use Rattle.iv_catalogue.specs.declared.limits.TheConstants.{MOST_BODY_STATEMENTS};
+ghost use Rattle.iv_catalogue.specs.declared.plan.BodyStatement.TheVariants as variant;
 ghost use Rattle.iv_expr.specs.Evaluation.{and_then, truth, value};
 ghost use Rattle.iv_expr.specs.Scopes.{no_frame, scope_of};
 ghost use Rattle.iv_machine.specs.BeforeTriggers.{before_row_run, before_statement, before_statement_run, change_after_set, change_after_statement};
@@ -26,7 +31,7 @@ use crate::matching::{
 use crate::when::{is_true, truth_of_when};
 use iv_account::Account;
 use iv_catalogue::{BodyStatement, Cause, DataStatement, Refusal, Setting, Trigger};
-use iv_exec_context::{Context, stored_value};
+use iv_exec_context::{Context, stored_value, tell_set, tell_when};
 use iv_expr::{Change, Frame, Row, Rows, Scope, TableColumn};
 use iv_value::{Truth, Value};
 use std::alloc::{AllocError, Global};
@@ -92,6 +97,29 @@ fn value_of_set<'x, R: Rows>(
     )
 }
 
+// The value of a SET at a change, or what failed in it, which is told.
+fn value_or_told<R: Rows>(
+    context: &Context<'_>,
+    rows: &R,
+    setting: &Setting,
+    change: &Change,
+    account: &mut Account,
+) -> Result<Value, Cause>
+    ensures answer { AnswersCause (λ v. v) result
+        (stored_value context.now change.now.table setting.now.column
+        (value (scope_of (change_frame change.now) (R.rows rows.now)) setting.now.value)) }
+    ensures told { UnlessMemoryCause result (account.new ≡ and_told account.old
+        (set_told context.now (R.rows rows.now) (variant.Set setting.now) change.now)) }
+{
+    match value_of_set(context, rows, setting, change) {
+        Ok(value) => Ok(value),
+        Err(cause) => {
+            tell_set(context.catalogue(), rows, setting, change, &cause, account)?;
+            Err(cause)
+        }
+    }
+}
+
 // A SET at a change.
 fn set<R: Rows>(
     alloc: Global,
@@ -99,11 +127,14 @@ fn set<R: Rows>(
     rows: &R,
     setting: &Setting,
     change: &mut Change,
+    account: &mut Account,
 ) -> Result<(), Cause>
-    ensures { AnswersCause (λ _. change.exit.now) result
+    ensures answer { AnswersCause (λ _. change.exit.now) result
         (change_after_set context.now (R.rows rows.now) setting.now change.entry.now) }
+    ensures told { UnlessMemoryCause result (account.new ≡ and_told account.old
+        (set_told context.now (R.rows rows.now) (variant.Set setting.now) change.entry.now)) }
 {
-    let value = value_of_set(context, rows, setting, change)?;
+    let value = value_or_told(context, rows, setting, change, account)?;
     set_new_value(alloc, change, setting.column, value)?;
     Ok(())
 }
@@ -117,13 +148,16 @@ fn run_statement<R: Rows>(
     place: u32,
     statement: &BodyStatement,
     change: &mut Change,
+    account: &mut Account,
 ) -> Result<(), Cause>
-    ensures { AnswersCause (λ _. change.exit.now) result
+    ensures answer { AnswersCause (λ _. change.exit.now) result
         (change_after_statement context.now
         (R.rows rows.now) trigger.now place statement.now change.entry.now) }
+    ensures told { UnlessMemoryCause result (account.new ≡ and_told account.old
+        (set_told context.now (R.rows rows.now) statement.now change.entry.now)) }
 {
     match statement {
-        BodyStatement::Set(setting) => set(alloc, context, rows, setting, change),
+        BodyStatement::Set(setting) => set(alloc, context, rows, setting, change, account),
         BodyStatement::Signal(_) => Err(Cause::Signal(trigger.id, place)),
         BodyStatement::Data(_) => Ok(()),
     }
@@ -136,16 +170,21 @@ fn run_body<R: Rows>(
     rows: &R,
     trigger: &Trigger,
     change: &mut Change,
+    account: &mut Account,
 ) -> Result<(), Cause>
     requires { length trigger.now.body ≤ MOST_BODY_STATEMENTS }
-    ensures { AnswersCause (λ _. change.exit.now) result
+    ensures answer { AnswersCause (λ _. change.exit.now) result
         (in_turn (λ s. change_after_statement context.now (R.rows rows.now) trigger.now s.0 s.1)
         (placed_statements trigger.now) change.entry.now) }
+    ensures told { UnlessMemoryCause result (account.new ≡ and_told account.old
+        (sets_told context.now (R.rows rows.now) trigger.now change.entry.now)) }
 {
     let body = trigger.body.as_slice();
     let mut place = 1u32;
     for statement in body {
-        run_statement(alloc, context, rows, trigger, place, statement, change)?;
+        run_statement(
+            alloc, context, rows, trigger, place, statement, change, account,
+        )?;
         place += 1;
     }
     Ok(())
@@ -159,9 +198,9 @@ fn when_at_row<'x, R: Rows>(
 ) -> Result<Truth, Cause>
     ensures effect { holds (scope_of (change_frame change.now) (R.rows rows.now)) trigger.now.when
         ≡ and_then result (λ t. Ok (is_true t)) }
-    ensures told { (tell : TruthValue → List Entry) → unless_refused
-        (truth (scope_of (change_frame change.now) (R.rows rows.now)) trigger.now.when) tell
-        ≡ unless_refused result tell }
+    ensures told { (failed : CauseValue → List Entry) (tell : TruthValue → List Entry) → told_or
+        (truth (scope_of (change_frame change.now) (R.rows rows.now)) trigger.now.when)
+        (λ fault. failed (cause_of fault)) tell ≡ told_or result failed tell }
 {
     let frame = Frame::at(&[], change);
     let scope = Scope::new(rows, &frame);
@@ -182,7 +221,48 @@ fn tell_at_row(
     account.ran_or_skipped(trigger, &frame, when)
 }
 
-// A BEFORE row trigger at a change, if its WHEN is true. That it runs, or is skipped, is told before its body runs.
+// Tells what failed in the WHEN of a BEFORE row trigger at a change.
+fn tell_when_at_row<R: Rows>(
+    rows: &R,
+    trigger: &Trigger,
+    change: &Change,
+    cause: &Cause,
+    account: &mut Account,
+) -> Result<(), AllocError>
+    ensures told { OnOk result (account.new ≡ and_told account.old (failure_told cause.now
+        (when_failure (R.rows rows.now) trigger.now (change_frame change.now)))) }
+{
+    let frame = Frame::at(&[], change);
+    tell_when(rows, trigger, &frame, cause, account)
+}
+
+// A BEFORE row trigger at a change, whose WHEN has this truth. That it runs, or is skipped, is told before its body
+// runs.
+fn run_by_truth<R: Rows>(
+    alloc: Global,
+    context: &Context<'_>,
+    rows: &R,
+    trigger: &Trigger,
+    when: Truth,
+    change: &mut Change,
+    account: &mut Account,
+) -> Result<(), Cause>
+    requires { length trigger.now.body ≤ MOST_BODY_STATEMENTS }
+    ensures answer { AnswersCause (λ _. change.exit.now) result (if is_true when
+        then in_turn (λ s. change_after_statement context.now (R.rows rows.now) trigger.now s.0 s.1)
+        (placed_statements trigger.now) change.entry.now else Ok change.entry.now) }
+    ensures told { UnlessMemoryCause result (account.new ≡ and_told account.old
+        (before_row_run_told context.now (R.rows rows.now) trigger.now change.entry.now when)) }
+{
+    tell_at_row(trigger, change, when, account)?;
+    if is_true(when) {
+        run_body(alloc, context, rows, trigger, change, account)
+    } else {
+        Ok(())
+    }
+}
+
+// A BEFORE row trigger at a change, if its WHEN is true; what fails in its WHEN is told.
 fn run_at_row<R: Rows>(
     alloc: Global,
     context: &Context<'_>,
@@ -195,14 +275,15 @@ fn run_at_row<R: Rows>(
     ensures answer { AnswersCause (λ _. change.exit.now) result
         (before_row_run context.now (R.rows rows.now) trigger.now change.entry.now) }
     ensures told { UnlessMemoryCause result (account.new ≡ and_told account.old
-        (trigger_told (R.rows rows.now) trigger.now (change_frame change.entry.now))) }
+        (when_told (R.rows rows.now) trigger.now (change_frame change.entry.now)
+        (before_row_run_told context.now (R.rows rows.now) trigger.now change.entry.now))) }
 {
-    let when = when_at_row(rows, trigger, change)?;
-    tell_at_row(trigger, change, when, account)?;
-    if is_true(when) {
-        run_body(alloc, context, rows, trigger, change)
-    } else {
-        Ok(())
+    match when_at_row(rows, trigger, change) {
+        Ok(when) => run_by_truth(alloc, context, rows, trigger, when, change, account),
+        Err(cause) => {
+            tell_when_at_row(rows, trigger, change, &cause, account)?;
+            Err(cause)
+        }
     }
 }
 
@@ -220,7 +301,7 @@ fn run_at_change<R: Rows>(
     ensures answer { AnswersRefusal (λ _. change.exit.now) result
         (change_after_trigger context.now (R.rows rows.now) trigger.now change.entry.now) }
     ensures told { Records result account.old account.new
-        (before_row_told (R.rows rows.now) trigger.now change.entry.now) }
+        (before_row_told context.now (R.rows rows.now) trigger.now change.entry.now) }
 {
     if is_on(change.table, event_of_change(change), trigger) {
         match run_at_row(alloc, context, rows, trigger, change, account) {
@@ -336,9 +417,9 @@ pub fn before_rows<R: Rows>(
 fn when_for_statement<R: Rows>(rows: &R, trigger: &Trigger) -> Result<Truth, Cause>
     ensures effect { holds (scope_of no_frame (R.rows rows.now)) trigger.now.when
         ≡ and_then result (λ t. Ok (is_true t)) }
-    ensures told { (tell : TruthValue → List Entry) → unless_refused
-        (truth (scope_of no_frame (R.rows rows.now)) trigger.now.when) tell
-        ≡ unless_refused result tell }
+    ensures told { (failed : CauseValue → List Entry) (tell : TruthValue → List Entry) → told_or
+        (truth (scope_of no_frame (R.rows rows.now)) trigger.now.when)
+        (λ fault. failed (cause_of fault)) tell ≡ told_or result failed tell }
 {
     let frame = Frame::none();
     let scope = Scope::new(rows, &frame);
@@ -367,7 +448,26 @@ fn unless_signal(trigger: &Trigger) -> Result<(), Cause>
     Ok(())
 }
 
-// A BEFORE statement trigger, if its WHEN is true. That it runs, or is skipped, is told before its body runs.
+// A BEFORE statement trigger whose WHEN has this truth. That it runs, or is skipped, is told before its body runs.
+fn run_once(trigger: &Trigger, when: Truth, account: &mut Account) -> Result<(), Cause>
+    requires { length trigger.now.body ≤ MOST_BODY_STATEMENTS }
+    ensures answer { AnswersCause (λ _. tt) result
+        (if is_true when then unless_signal trigger.now else Ok tt) }
+    ensures told { UnlessMemoryCause result (account.new ≡ and_told account.old
+        (ran_or_skipped trigger.now no_frame when ∷ [])) }
+    ensures unasked { account.old.asked ≡ false
+        → result ≡ (if is_true when then unless_signal trigger.now else Ok tt) }
+{
+    let frame = Frame::none();
+    account.ran_or_skipped(trigger, &frame, when)?;
+    if is_true(when) {
+        unless_signal(trigger)
+    } else {
+        Ok(())
+    }
+}
+
+// A BEFORE statement trigger, if its WHEN is true; what fails in its WHEN is told.
 fn run_for_statement<R: Rows>(
     rows: &R,
     trigger: &Trigger,
@@ -381,13 +481,13 @@ fn run_for_statement<R: Rows>(
     ensures unasked { account.old.asked ≡ false
         → result ≡ before_statement_run (R.rows rows.now) trigger.now }
 {
-    let when = when_for_statement(rows, trigger)?;
-    let frame = Frame::none();
-    account.ran_or_skipped(trigger, &frame, when)?;
-    if is_true(when) {
-        unless_signal(trigger)
-    } else {
-        Ok(())
+    match when_for_statement(rows, trigger) {
+        Ok(when) => run_once(trigger, when, account),
+        Err(cause) => {
+            let frame = Frame::none();
+            tell_when(rows, trigger, &frame, &cause, account)?;
+            Err(cause)
+        }
     }
 }
 

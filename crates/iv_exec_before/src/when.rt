@@ -5,7 +5,9 @@ ghost use Rattle.iv_value.specs.Truths.{is_true};
 ghost use Rattle.iv_expr.specs.Evaluation.{and_then, truth};
 ghost use Rattle.iv_machine.specs.Proposals.{holds, with_cause};
 ghost use Rattle.iv_account.specs.declared.entry.Entry.{Entry};
-ghost use Rattle.iv_account.specs.Accounts.{unless_refused};
+ghost use Rattle.iv_account.specs.Accounts.{told_or};
+ghost use Rattle.iv_catalogue.specs.Refusals.{cause_of};
+ghost use Rattle.iv_catalogue.specs.declared.cause.Cause.{Cause as CauseValue};
 
 use iv_catalogue::{Cause, Trigger};
 use iv_expr::{Rows, Scope, truth};
@@ -16,8 +18,9 @@ use iv_value::Truth;
 pub fn truth_of_when<R: Rows>(trigger: &Trigger, scope: &Scope<'_, R>) -> Result<Truth, Cause>
     ensures truth { result ≡ with_cause (truth scope.now trigger.now.when) }
     ensures effect { holds scope.now trigger.now.when ≡ and_then result (λ t. Ok (is_true t)) }
-    ensures told { (tell : TruthValue → List Entry)
-        → unless_refused (truth scope.now trigger.now.when) tell ≡ unless_refused result tell }
+    ensures told { (failed : CauseValue → List Entry) (tell : TruthValue → List Entry)
+        → told_or (truth scope.now trigger.now.when) (λ fault. failed (cause_of fault)) tell
+        ≡ told_or result failed tell }
 {
     Ok(truth(&trigger.when, scope)?)
 }

@@ -1,1 +1,5 @@
 pub mod Answers
+pub mod Failing
+pub mod Firsts
+pub mod Untold
+pub mod Copies

@@ -1,2 +1,3 @@
 pub mod Answering
 pub mod Triggered
+pub mod Sides

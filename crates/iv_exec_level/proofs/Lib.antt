@@ -4,3 +4,4 @@ pub mod Turns
 pub mod Levels
 pub mod ToldTurns
 pub mod ToldLevels
+pub mod ToldConditions

@@ -16,7 +16,7 @@ use Rattle.iv_machine.specs.Proposals.{holds, proposed_wave}
 use Rattle.iv_machine.specs.Waves.{net_wave, settled_waves}
 use Rattle.iv_laws_rows.specs.Changing.{AnswersAt}
 use Rattle.iv_account.specs.declared.entry.Entry.{Entry}
-use Rattle.iv_account.specs.Accounts.{before_statement_told, unless_refused}
+use Rattle.iv_account.specs.Accounts.{before_statement_told, proposal_told}
 
 -- this database, with this much of the budget left
 abbrev pub progress : Database → ℕ → Progress
@@ -52,8 +52,7 @@ allowed_wave context statement frame db =
 
 -- what is told of that
 abbrev pub allowed_told : Context → DataStatement → Frame → Database → List Entry
-allowed_told context statement frame db =
-    unless_refused (proposed_wave context db frame statement) (λ wave. before_statement_told context db.rows statement)
+allowed_told context statement frame db = proposal_told context statement frame db (λ wave. before_statement_told context db.rows statement)
 
 -- the innermost trigger of a refusal that comes while this one runs
 abbrev pub innermost : ℕ → Option ℕ → Option ℕ

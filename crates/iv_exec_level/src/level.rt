@@ -29,7 +29,7 @@ use crate::start::{LevelChanges, allowed, check, settle_waves, when_of};
 use iv_account::Account;
 use iv_catalogue::{BodyStatement, Catalogue, Cause, DataStatement, Refusal, Trigger, TriggerId};
 use iv_exec_before::is_true;
-use iv_exec_context::Context;
+use iv_exec_context::{Context, tell_when};
 use iv_exec_transitions::{Fires, Transitions, firings};
 use iv_expr::{Change, Frame, TableColumn};
 use iv_machine::Limits;
@@ -153,7 +153,8 @@ fn run_body<K: ChangeableRows>(
     Ok(())
 }
 
-// The body of a trigger, if its WHEN is true. That the trigger runs, or is skipped, is told before its body runs.
+// The body of a trigger, if its WHEN is true. That the trigger runs, or is skipped, is told before its body runs, and so
+// is what fails in its WHEN.
 #[cycle(level)]
 fn run_where_true<K: ChangeableRows>(
     store: &mut K,
@@ -180,7 +181,10 @@ fn run_where_true<K: ChangeableRows>(
 {
     let when = match when_of(&*store, trigger, &*frame) {
         Ok(when) => when,
-        Err(cause) => return Err(Refusal::of(cause)),
+        Err(cause) => {
+            tell_when(&*store, trigger, &*frame, &cause, account)?;
+            return Err(Refusal::of(cause));
+        }
     };
     account.ran_or_skipped(trigger, &*frame, when)?;
     if is_true(when) {

@@ -15,7 +15,9 @@ ghost use Rattle.iv_exec_before.specs.Recording.{Records};
 ghost use Rattle.iv_exec_waves.specs.Applying.{Proposes};
 ghost use Rattle.iv_exec_waves.specs.Running.{LeavesStore};
 ghost use Rattle.iv_account.specs.declared.entry.Entry.{Entry};
-ghost use Rattle.iv_account.specs.Accounts.{check_told, unless_refused, waves_told};
+ghost use Rattle.iv_account.specs.Accounts.{check_told, told_or, waves_told};
+ghost use Rattle.iv_catalogue.specs.Refusals.{cause_of};
+ghost use Rattle.iv_catalogue.specs.declared.cause.Cause.{Cause as CauseValue};
 ghost use Rattle.iv_exec_level.specs.Firing.{MayBeParts};
 ghost use Rattle.iv_exec_waves.specs.Steps.{wave_with};
 ghost use Rattle.iv_exec_level.specs.Settled.{Settles, Tells};
@@ -24,7 +26,7 @@ ghost use Rattle.iv_exec_level.specs.Steps.{allowed_told, allowed_wave};
 use iv_account::Account;
 use iv_catalogue::{Cause, DataStatement, Refusal, Trigger};
 use iv_exec_before::{before_statement, set_columns, truth_of_when};
-use iv_exec_context::Context;
+use iv_exec_context::{Context, tell_proposal};
 use iv_exec_proposals::proposed;
 use iv_exec_transitions::{Transitions, level_columns, may_fire, transitions, transitions_of};
 use iv_exec_waves::settle;
@@ -34,7 +36,7 @@ use iv_store::ChangeableRows;
 use iv_value::Truth;
 use std::alloc::{AllocError, Global};
 
-/// What a statement proposes, unless a BEFORE statement trigger refuses it.
+/// What a statement proposes, unless a BEFORE statement trigger refuses it. What fails in the proposal is told.
 pub fn allowed<'x, K: ChangeableRows>(
     store: &'x K,
     context: &Context<'_>,
@@ -54,12 +56,24 @@ pub fn allowed<'x, K: ChangeableRows>(
     ensures told { Records result account.old account.new
         (allowed_told context.now statement.now frame.now (K.view store.now).base) }
 {
-    let changes = proposed(store, context, frame, statement)?;
-    match before_statement(context, store, statement, account) {
-        Ok(()) => Ok(changes),
-        Err(refusal) => {
-            drop(changes);
-            Err(refusal)
+    match proposed(store, context, frame, statement) {
+        Ok(changes) => match before_statement(context, store, statement, account) {
+            Ok(()) => Ok(changes),
+            Err(refusal) => {
+                drop(changes);
+                Err(refusal)
+            }
+        },
+        Err(cause) => {
+            tell_proposal(
+                context.catalogue(),
+                store,
+                frame,
+                statement,
+                &cause,
+                account,
+            )?;
+            Err(Refusal::of(cause))
         }
     }
 }
@@ -152,9 +166,9 @@ pub fn when_of<'x, K: ChangeableRows>(
 ) -> Result<Truth, Cause>
     ensures effect { holds (scope_of frame.now (K.view store.now).base.rows) trigger.now.when
         ≡ and_then result (λ t. Ok (is_true t)) }
-    ensures told { (tell : TruthValue → List Entry) → unless_refused
-        (truth (scope_of frame.now (K.view store.now).base.rows) trigger.now.when) tell
-        ≡ unless_refused result tell }
+    ensures told { (failed : CauseValue → List Entry) (tell : TruthValue → List Entry) → told_or
+        (truth (scope_of frame.now (K.view store.now).base.rows) trigger.now.when)
+        (λ fault. failed (cause_of fault)) tell ≡ told_or result failed tell }
 {
     let scope = Scope::new(store, frame);
     truth_of_when(trigger, &scope)

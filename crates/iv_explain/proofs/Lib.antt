@@ -1,5 +1,4 @@
 pub mod GeneratedNames
-pub mod SpelledLemmas
 pub mod Trees
 pub mod Computed
 pub mod ComputedNames

@@ -1,28 +1,15 @@
 -- Expressions in parts: what is written after each other is the text of the tree.
-use Rattle.std.proofs.Common.{◌≡◌, ℕ, List, ◌++◌, Result, Ok, codes, sym, ◌∙◌, ap, subst}
+use Rattle.std.proofs.Common.{◌≡◌, ℕ, List, ◌++◌, Ok, codes, sym, ◌∙◌, ap}
 use Rattle.iv_syntax.specs.declared.tree.Sign.{Sign}
 use Rattle.iv_syntax.specs.declared.tree.Expression.{Expression}
 use Rattle.iv_syntax.specs.declared.tree.Expression.TheVariants as expression
 use Rattle.iv_syntax.proofs.TreeShapes.{group_is, signed_is, product_is, sum_is}
 use Rattle.iv_print.specs.Sinks.{SinkState}
 use Rattle.iv_print.specs.Writing.{Writes}
-use Rattle.iv_print.specs.declared.device.DeviceFault.{DeviceFault}
 use Rattle.iv_print.specs.declared.format.Format.{Format}
 use Rattle.iv_explain.specs.Expressions.{expression_text, operator_text, sign_text}
-use Rattle.iv_explain.specs.Spelled.{spelled}
-use Rattle.iv_explain.proofs.SpelledLemmas.{spelled_then}
-
-abbrev Written : Type 0
-Written = Result (Unit {0}) DeviceFault
-
--- two or three writes, and what they write together
-pub two : (f : Format) (p q r : SinkState) (x : Written) (a b all : List ℕ) → all ≡ a ++ b
-    → Writes p q (Ok tt) (spelled f a) → Writes q r x (spelled f b) → Writes p r x (spelled f all)
-two f p q r x a b all e g h = subst (λ (l : List ℕ). Writes p r x (spelled f l)) (sym e) (spelled_then f p q r x a b g h)
-
-pub three : (f : Format) (p q r s : SinkState) (x : Written) (a b c all : List ℕ) → all ≡ a ++ (b ++ c)
-    → Writes p q (Ok tt) (spelled f a) → Writes q r (Ok tt) (spelled f b) → Writes r s x (spelled f c) → Writes p s x (spelled f all)
-three f p q r s x a b c all e g h i = two f p q s x a (b ++ c) all e g (spelled_then f q r s x b c h i)
+use Rattle.iv_print.specs.Spelled.{spelled}
+use Rattle.iv_print.proofs.SpelledLemmas.{Written, three, two}
 
 pub group_told : (f : Format) (e a b : Expression) (p q r s : SinkState) (x : Written) → e ≡ expression.Group a → b ≡ a
     → Writes p q (Ok tt) (spelled f (codes "(")) → Writes q r (Ok tt) (spelled f (expression_text b)) → Writes r s x (spelled f (codes ")"))

@@ -10,11 +10,7 @@ use Rattle.iv_syntax.specs.declared.tree.Expression.TheVariants.{Number, Text, N
 use Rattle.iv_syntax.specs.declared.tree.Sign.{Sign}
 use Rattle.iv_syntax.specs.declared.tree.Sign.TheVariants.{Plus, Minus}
 use Rattle.iv_syntax.specs.Trees.{group, signed, product, sum}
-use Rattle.iv_print.specs.Lines.{quote_doubled}
-
--- a text between single quotes, with two quotes for each one
-abbrev pub quoted_text : List ℕ → List ℕ
-quoted_text t = codes "'" ++ (flat_map quote_doubled t ++ codes "'")
+use Rattle.iv_print.specs.Lines.{quoted_text}
 
 -- a sign before its operand
 abbrev pub sign_text : Sign → List ℕ

@@ -1,4 +1,3 @@
-pub mod Spelled
 pub mod Expressions
 pub mod Names
 pub mod JsonNames

@@ -3,13 +3,12 @@ ghost use Rattle.std.specs.Prelude.{◌≡◌, ◌++◌, codes, map, option_copi
 ghost use Rattle.std.specs.List.{flat_map};
 ghost use Rattle.iv_print.specs.Writing.{Writes};
 ghost use Rattle.iv_explain.specs.Columns.{column_in, column_texts, columns_line, columns_member, columns_named, further_in, listed_in, output_text, own_name, separator};
-ghost use Rattle.iv_explain.specs.Spelled.{spelled};
+ghost use Rattle.iv_print.specs.Spelled.{spelled};
 ghost use Rattle.iv_syntax.specs.declared.statement.Statement.TheVariants as statement;
 
 use crate::expressions::tell_expression;
-use crate::spelled::tell;
 use iv_catalogue::{Catalogue, Column};
-use iv_print::{DeviceFault, Format, Sink, write_all, write_json_text, write_member};
+use iv_print::{DeviceFault, Format, Sink, tell, write_all, write_json_text, write_member};
 use iv_syntax::{Expression, Name, Select, SelectList, Statement};
 
 fn own_name(expression: &Expression) -> Option<&str>
@@ -36,7 +35,7 @@ fn tell_output<W: Sink>(
 }
 
 // An expression as JSON has it, between its quotes.
-#[tactic(auto, using(iv_print::proofs::WriteLemmas::writes_then), unfolding(crate::specs::Spelled::spelled, iv_print::specs::Json::json_text))]
+#[tactic(auto, using(iv_print::proofs::WriteLemmas::writes_then), unfolding(iv_print::specs::Spelled::spelled, iv_print::specs::Json::json_text))]
 fn write_quoted<W: Sink>(writer: &mut W, expression: &Expression) -> Result<(), DeviceFault>
     ensures { Writes (W.state writer.old) (W.state writer.new) result
         (column_in Format.Json (output_text expression.now)) }
@@ -46,7 +45,7 @@ fn write_quoted<W: Sink>(writer: &mut W, expression: &Expression) -> Result<(), 
     write_all(writer, b"\"")
 }
 
-#[tactic(auto, unfolding(crate::specs::Spelled::spelled))]
+#[tactic(auto, unfolding(iv_print::specs::Spelled::spelled))]
 fn write_output<W: Sink>(
     writer: &mut W,
     format: Format,

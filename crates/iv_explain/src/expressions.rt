@@ -1,47 +1,15 @@
 //! Value expressions, literals, types and lists of names.
 ghost use Rattle.std.specs.Prelude.{◌++◌, codes, decimal};
 ghost use Rattle.std.specs.List.{flat_map};
-ghost use Rattle.iv_print.specs.Lines.{quote_doubled};
+ghost use Rattle.iv_print.specs.Lines.{quoted_text};
 ghost use Rattle.iv_print.specs.Writing.{Writes};
-ghost use Rattle.iv_explain.specs.Expressions.{expression_text, further_name, literal_text, names_text, operator_text, qualifier_text, quoted_text, sign_before, sign_text, type_text};
-ghost use Rattle.iv_explain.specs.Spelled.{spelled};
+ghost use Rattle.iv_explain.specs.Expressions.{expression_text, further_name, literal_text, names_text, operator_text, qualifier_text, sign_before, sign_text, type_text};
+ghost use Rattle.iv_print.specs.Spelled.{spelled};
 
-use crate::counts::{tell_number, tell_number_between};
-use crate::spelled::{tell, tell_both};
-use iv_print::{DeviceFault, Format, Sink};
+use iv_print::{
+    DeviceFault, Format, Sink, tell, tell_both, tell_number, tell_number_between, tell_quoted,
+};
 use iv_syntax::{ColumnName, ColumnType, Expression, Literal, Name, Sign};
-
-fn tell_byte<W: Sink>(writer: &mut W, format: Format, byte: u8) -> Result<(), DeviceFault>
-    ensures { Writes (W.state writer.old) (W.state writer.new) result (spelled format (quote_doubled byte)) }
-{
-    if byte == b'\'' {
-        tell(writer, format, b"''")
-    } else {
-        tell(writer, format, &[byte])
-    }
-}
-
-// The characters with each quote doubled.
-fn tell_characters<W: Sink>(writer: &mut W, format: Format, bytes: &[u8]) -> Result<(), DeviceFault>
-    ensures { Writes (W.state writer.old) (W.state writer.new) result
-        (spelled format (flat_map quote_doubled bytes.now)) }
-{
-    let mut rest = bytes;
-    while let Some((byte, others)) = rest.split_first() {
-        tell_byte(writer, format, *byte)?;
-        rest = others;
-    }
-    Ok(())
-}
-
-#[tactic(auto, using(crate::proofs::SpelledLemmas::spelled_then))]
-fn tell_quoted<W: Sink>(writer: &mut W, format: Format, text: &str) -> Result<(), DeviceFault>
-    ensures { Writes (W.state writer.old) (W.state writer.new) result (spelled format (quoted_text text.now)) }
-{
-    tell(writer, format, b"'")?;
-    tell_characters(writer, format, text.as_bytes())?;
-    tell(writer, format, b"'")
-}
 
 fn tell_qualifier<W: Sink>(
     writer: &mut W,
@@ -57,7 +25,7 @@ fn tell_qualifier<W: Sink>(
     }
 }
 
-#[tactic(auto, using(crate::proofs::SpelledLemmas::spelled_then))]
+#[tactic(auto, using(iv_print::proofs::SpelledLemmas::spelled_then))]
 fn tell_column<W: Sink>(
     writer: &mut W,
     format: Format,
@@ -139,7 +107,7 @@ fn tell_sign_before<W: Sink>(
     }
 }
 
-#[tactic(auto, using(crate::proofs::SpelledLemmas::spelled_then))]
+#[tactic(auto, using(iv_print::proofs::SpelledLemmas::spelled_then))]
 fn tell_signed<W: Sink>(
     writer: &mut W,
     format: Format,
@@ -210,7 +178,7 @@ fn tell_further<W: Sink>(writer: &mut W, format: Format, names: &[Name]) -> Resu
 }
 
 // A name and further ones.
-#[tactic(auto, using(crate::proofs::SpelledLemmas::spelled_then))]
+#[tactic(auto, using(iv_print::proofs::SpelledLemmas::spelled_then))]
 fn tell_listed<W: Sink>(
     writer: &mut W,
     format: Format,

@@ -17,7 +17,7 @@ use iv_syntax::Statement;
 use std::alloc::Global;
 
 // A reason between its quotes.
-#[tactic(auto, using(iv_print::proofs::WriteLemmas::writes_then), unfolding(crate::specs::Spelled::spelled, iv_print::specs::Json::json_text))]
+#[tactic(auto, using(iv_print::proofs::WriteLemmas::writes_then), unfolding(iv_print::specs::Spelled::spelled, iv_print::specs::Json::json_text))]
 fn write_quoted<W: Sink>(writer: &mut W, why: Why<'_>) -> Result<(), DeviceFault>
     ensures { Writes (W.state writer.old) (W.state writer.new) result
         (json_text (why_text (why_seen why.entry))) }

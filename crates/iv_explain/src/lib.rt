@@ -16,7 +16,6 @@ mod references;
 mod rules;
 mod sentences;
 mod shapes;
-mod spelled;
 mod words;
 mod worked;
 

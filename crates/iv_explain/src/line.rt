@@ -11,7 +11,7 @@ use iv_print::{DeviceFault, Format, Sink, write_all};
 use iv_syntax::Statement;
 use std::alloc::Global;
 
-#[tactic(auto, unfolding(crate::specs::Spelled::spelled))]
+#[tactic(auto, unfolding(iv_print::specs::Spelled::spelled))]
 fn write_explanation<W: Sink>(
     writer: &mut W,
     explanation: Explanation<'_>,

@@ -5,15 +5,13 @@ ghost use Rattle.iv_catalogue.specs.Names.{generated_name};
 ghost use Rattle.iv_print.specs.Writing.{Writes};
 ghost use Rattle.iv_resolve_name_faults.specs.Seen.{fault_seen, item_seen};
 ghost use Rattle.iv_explain.specs.Names.{column_text, fault_text, item_text};
-ghost use Rattle.iv_explain.specs.Spelled.{spelled};
+ghost use Rattle.iv_print.specs.Spelled.{spelled};
 
-use crate::counts::tell_number_after;
-use crate::spelled::{tell, tell_both};
-use iv_print::{DeviceFault, Format, Sink};
+use iv_print::{DeviceFault, Format, Sink, tell, tell_both, tell_number_after};
 use iv_resolve_name_faults::{NameFault, NamedItem};
 
 // A column after the range or row variable that is written before it.
-#[tactic(auto, using(crate::proofs::SpelledLemmas::spelled_then))]
+#[tactic(auto, using(iv_print::proofs::SpelledLemmas::spelled_then))]
 fn tell_qualified<W: Sink>(
     writer: &mut W,
     format: Format,
@@ -44,7 +42,7 @@ fn tell_column<W: Sink>(
 }
 
 // The name that is generated for a constraint, after these words.
-#[tactic(auto, using(crate::proofs::SpelledLemmas::spelled_then), unfolding(iv_catalogue::specs::Names::generated_name))]
+#[tactic(auto, using(iv_print::proofs::SpelledLemmas::spelled_then), unfolding(iv_catalogue::specs::Names::generated_name))]
 fn tell_generated<W: Sink>(
     writer: &mut W,
     format: Format,
@@ -96,7 +94,7 @@ pub fn tell_item<W: Sink>(
 }
 
 // What is named, and what is said of it.
-#[tactic(auto, using(crate::proofs::SpelledLemmas::spelled_then))]
+#[tactic(auto, using(iv_print::proofs::SpelledLemmas::spelled_then))]
 fn tell_item_and<W: Sink>(
     writer: &mut W,
     format: Format,

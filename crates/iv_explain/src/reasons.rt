@@ -5,7 +5,7 @@ ghost use Rattle.iv_resolve_reasons.specs.Seen.{reason_seen};
 ghost use Rattle.iv_explain.specs.Explanations.{explanation_text, no_savepoint, not_deferrable, why_text};
 ghost use Rattle.iv_explain.specs.Reasons.{reason_text};
 ghost use Rattle.iv_explain.specs.Seen.{explanation_seen, why_seen};
-ghost use Rattle.iv_explain.specs.Spelled.{spelled};
+ghost use Rattle.iv_print.specs.Spelled.{spelled};
 
 use crate::explaining::{Explanation, Why};
 use crate::limits::tell_limit;

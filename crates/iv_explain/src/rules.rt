@@ -6,7 +6,7 @@ ghost use Rattle.iv_resolve_reasons.specs.Seen.{schema_fault_seen};
 ghost use Rattle.iv_resolve_reasons.specs.SchemaFaults.{change_before, columnless_table, contradictory_time, exists_in_check, item_again, row_of_statement, second_primary_key};
 ghost use Rattle.iv_resolve_reasons.specs.SchemaFaults.{set_after, set_of_old, set_of_statement, side_without_rows, table_before, unfit_default};
 ghost use Rattle.iv_explain.specs.Reasons.{rule_text};
-ghost use Rattle.iv_explain.specs.Spelled.{spelled};
+ghost use Rattle.iv_print.specs.Spelled.{spelled};
 
 use crate::parts::Part;
 use crate::references::tell_foreign_key;

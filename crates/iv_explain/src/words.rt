@@ -2,11 +2,10 @@
 ghost use Rattle.iv_print.specs.Writing.{Writes};
 ghost use Rattle.iv_explain.specs.Expressions.{unsuited_text};
 ghost use Rattle.iv_explain.specs.Reasons.{event_text, side_text, what_text};
-ghost use Rattle.iv_explain.specs.Spelled.{spelled};
+ghost use Rattle.iv_print.specs.Spelled.{spelled};
 
-use crate::spelled::tell;
 use iv_expr::Side;
-use iv_print::{DeviceFault, Format, Sink};
+use iv_print::{DeviceFault, Format, Sink, tell};
 use iv_syntax::{ColumnType, TransitionName, TriggerEvent};
 
 /// Writes what a value is that doesn't suit a column of this type.

@@ -10,3 +10,5 @@ mod SparedTriggers
 mod SparedValues
 mod NoViolations
 mod Telling
+mod FailuresFound
+mod FailuresOfStatements

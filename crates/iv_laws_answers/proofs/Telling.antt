@@ -26,15 +26,17 @@ use Rattle.iv_machine.specs.Bounds.{most_changes_in_a_transaction}
 use Rattle.iv_machine.specs.Databases.{row_at, scan, is_chosen, first, size, database_after}
 use Rattle.iv_machine.specs.Context.{Context, Failure, over, unless_first, while_running, with_count, inside_trigger, each, in_turn}
 use Rattle.iv_machine.specs.Proposals.{holds, proposed_wave}
-use Rattle.iv_machine.specs.BeforeTriggers.{is_before_row_on, is_before_this, is_on, event_of_change, placed_statements, before_statement_run, before_statement, change_frame, change_after_trigger}
+use Rattle.iv_machine.specs.BeforeTriggers.{is_before_row_on, is_before_this, is_on, event_of_change, placed_statements, before_statement_run, before_statement, change_frame, change_after_set, change_after_statement, change_after_trigger}
 use Rattle.iv_machine.specs.ReferentialActions.{LostKeys, lost_keys, restricted_rows, conflicts, next_wave, following_wave}
 use Rattle.iv_machine.specs.Waves.{numbered_wave, is_beyond_last_row, wave_as_applied, AppliedWave, one_wave, is_empty, SettledWaves, Settles, none_settled, settled_by, settled_within, settled_waves, net_wave}
 use Rattle.iv_machine.specs.Levels.{Firing, Finished, Progress, Runs, statement_run, body_run, firing_run, firings_run, level_columns, firings, immediate_check, level_steps, nested_level, level}
 use Rattle.iv_machine.specs.Machine.{level_outcome, context_of}
 use Rattle.iv_account.specs.declared.entry.Entry.{Entry}
 use Rattle.iv_account.specs.declared.entry.Disagreement.{Disagreement}
-use Rattle.iv_account.specs.declared.entry.Entry.TheVariants.{Changed, Began, Ended}
-use Rattle.iv_account.specs.Accounts.{unless_refused, if_some, told_each, told_in_turn, fault_told, disagreement_at, conflict_told, action_fault_told, ran, ran_or_skipped, trigger_told, before_statement_told, before_row_told, before_each_told, before_rows_told, entered_told, acted_told, following_told, applied_told, one_wave_told, TellsWaves, waves_told_by, no_waves_told, waves_told_within, waves_told, Tells, statement_told, body_told, fired_told, firing_told, firings_told, finished_told, waves_and_after_told, level_steps_told, nested_told, account}
+use Rattle.iv_account.specs.declared.entry.Entry.TheVariants.{Changed, Began, Ended, Failed}
+use Rattle.iv_account.specs.declared.failure.FailedEvaluation.{FailedEvaluation}
+use Rattle.iv_account.specs.Accounts.{unless_refused, told_or, failure_told, tells_failure, when_told, set_told, sets_told, if_some, told_each, told_in_turn, fault_told, disagreement_at, conflict_told, action_fault_told, ran, ran_or_skipped, trigger_told, before_statement_told, before_row_run_told, before_row_told, before_each_told, before_rows_told, entered_told, acted_told, following_told, applied_told, one_wave_told, TellsWaves, waves_told_by, no_waves_told, waves_told_within, waves_told, Tells, statement_told, body_told, fired_told, firing_told, firings_told, finished_told, waves_and_after_told, level_steps_told, nested_told, account}
+use Rattle.iv_account.specs.Failures.{proposal_failure, set_failure, when_failure}
 use Rattle.iv_account.specs.Sessions.{change_told}
 use Rattle.iv_laws_answers.specs.AccountLaws.{after_entry, database_told, running_after, running_told, violation_of, violation_in, violations_told, last_violation, EndsIn, LevelsAreTold, StatementsAreTold, AllThatBeginsEnds, NoViolationOfAccepted, OneViolationOfRefused}
 use Rattle.iv_laws_answers.proofs.NoViolations.{ApartCause, ApartRefusal, ApartFailure, no_violation, fault_apart, proposed_apart, before_statement_apart, applied_apart}
@@ -118,17 +120,28 @@ then_apart : {A B : Type 0} (later : B → Database) (db : Database) (r : Result
 then_apart later db (Ok a) ys k h more = more a
 then_apart later db (Err f) ys k h more = nothing_ends f.cause (no_violation f.cause h)
 
-over_apart : {A B : Type 0} (later : B → Database) (db : Database) (r : Result A Cause) (ys : A → List Entry) (k : A → Result B Failure)
-    → ApartCause r → ((a : A) → TellOf later db (ys a) (k a)) → TellOf later db (unless_refused r ys) (and_then (over db r) k)
-over_apart later db (Ok a) ys k h more = more a
-over_apart later db (Err cause) ys k h more = nothing_ends cause (no_violation cause h)
+-- what failed ends no entries in a violation
+failure_ends : (cause : Cause) (failure : Option FailedEvaluation) → violation_of cause ≡ None → EndsIn cause (failure_told cause failure)
+failure_ends cause None e = nothing_ends cause e
+failure_ends cause (Some f) e = by (tells_failure cause)
+  where
+    by : (b : Bool) → EndsIn cause (if b then Failed f ∷ [] else [])
+    by true = record { once = ap if_some (sym e); last = sym e }
+    by false = nothing_ends cause e
+
+over_apart : {A B : Type 0} (later : B → Database) (db : Database) (r : Result A Cause) (failure : Option FailedEvaluation) (ys : A → List Entry) (k : A → Result B Failure)
+    → ApartCause r → ((a : A) → TellOf later db (ys a) (k a))
+    → TellOf later db (told_or r (λ cause. failure_told cause failure) ys) (and_then (over db r) k)
+over_apart later db (Ok a) failure ys k h more = more a
+over_apart later db (Err cause) failure ys k h more = failure_ends cause failure (no_violation cause h)
 
 -- a condition, which tells by its truth
-when_apart : {B : Type 0} (later : B → Database) (db : Database) (r : Result Truth ExprFault) (ys : Truth → List Entry) (k : Bool → Result B Failure)
+when_apart : {B : Type 0} (later : B → Database) (db : Database) (r : Result Truth ExprFault) (failure : Option FailedEvaluation) (ys : Truth → List Entry) (k : Bool → Result B Failure)
     → ((t : Truth) → TellOf later db (ys t) (k (is_true t)))
-    → TellOf later db (unless_refused r ys) (and_then (over db (elim r as (λ _. Result Bool Cause) [ Ok t ↦ Ok (is_true t) | Err fault ↦ Err (cause_of fault) ])) k)
-when_apart later db (Ok t) ys k more = more t
-when_apart later db (Err fault) ys k more = nothing_ends (cause_of fault) (no_violation (cause_of fault) (fault_apart fault))
+    → TellOf later db (told_or r (λ fault. failure_told (cause_of fault) failure) ys)
+    (and_then (over db (elim r as (λ _. Result Bool Cause) [ Ok t ↦ Ok (is_true t) | Err fault ↦ Err (cause_of fault) ])) k)
+when_apart later db (Ok t) failure ys k more = more t
+when_apart later db (Err fault) failure ys k more = failure_ends (cause_of fault) failure (no_violation (cause_of fault) (fault_apart fault))
 
 counted_apart : {A B : Type 0} (later : B → Database) (db : Database) (r : Result A Refusal) (ys : A → List Entry) (k : A → Result B Failure)
     → ApartRefusal r → ((a : A) → TellOf later db (ys a) (k a)) → TellOf later db (unless_refused r ys) (and_then (with_count db r) k)
@@ -158,6 +171,19 @@ quiet_unless : {A E : Type 0} (r : Result A E) (ys : A → List Entry) → ((a :
 quiet_unless (Ok a) ys h = h a
 quiet_unless (Err e) ys h = leads_nowhere
 
+quiet_or : {A E : Type 0} (r : Result A E) (refused : E → List Entry) (ys : A → List Entry) → ((e : E) → Quiet (refused e)) → ((a : A) → Quiet (ys a))
+    → Quiet (told_or r refused ys)
+quiet_or (Ok a) refused ys f h = h a
+quiet_or (Err e) refused ys f h = f e
+
+quiet_failure : (cause : Cause) (failure : Option FailedEvaluation) → Quiet (failure_told cause failure)
+quiet_failure cause None = leads_nowhere
+quiet_failure cause (Some f) = by (tells_failure cause)
+  where
+    by : (b : Bool) → Quiet (if b then Failed f ∷ [] else [])
+    by true = λ db. record { database = refl; ended = λ n. refl; none = refl; last = refl }
+    by false = leads_nowhere
+
 quiet_turns : {A B E : Type 0} (f : A → B → Result B E) (tell : A → B → List Entry) → ((x : A) (b : B) → Quiet (tell x b))
     → (xs : List A) (b : B) → Quiet (told_in_turn f tell xs b)
 quiet_turns f tell h [] b = leads_nowhere
@@ -176,25 +202,46 @@ quiet_asked t frame True = λ db. record { database = refl; ended = λ n. refl; 
 quiet_asked t frame False = λ db. record { database = refl; ended = λ n. refl; none = refl; last = refl }
 quiet_asked t frame Unknown = λ db. record { database = refl; ended = λ n. refl; none = refl; last = refl }
 
+quiet_when : (rows : List StoredRow) (t : Trigger) (frame : Frame) (rest : Truth → List Entry) → ((when : Truth) → Quiet (rest when)) → Quiet (when_told rows t frame rest)
+quiet_when rows t frame rest h =
+    quiet_or (truth (scope_of frame rows) t.when) (λ fault. failure_told (cause_of fault) (when_failure rows t frame)) rest
+    (λ fault. quiet_failure (cause_of fault) (when_failure rows t frame)) h
+
 quiet_trigger : (rows : List StoredRow) (t : Trigger) (frame : Frame) → Quiet (trigger_told rows t frame)
-quiet_trigger rows t frame = quiet_unless (truth (scope_of frame rows) t.when) (λ when. ran_or_skipped t frame when ∷ []) (quiet_asked t frame)
+quiet_trigger rows t frame = quiet_when rows t frame (λ when. ran_or_skipped t frame when ∷ []) (quiet_asked t frame)
 
 quiet_before_statement : (w : Context) (rows : List StoredRow) (d : DataStatement) → Quiet (before_statement_told w rows d)
 quiet_before_statement w rows d =
     quiet_turns (λ t _. while_running t.id (before_statement_run rows t)) (λ t _. trigger_told rows t no_frame)
     (λ t _. quiet_trigger rows t no_frame) (filter (is_before_this d) w.schema.triggers) tt
 
-quiet_before_row : (rows : List StoredRow) (t : Trigger) (c : Change) → Quiet (before_row_told rows t c)
-quiet_before_row rows t c = by (is_on c.table (event_of_change c) t)
+quiet_set : (w : Context) (rows : List StoredRow) (s : BodyStatement) (c : Change) → Quiet (set_told w rows s c)
+quiet_set w rows (body.Set s) c =
+    quiet_or (change_after_set w rows s c) (λ cause. failure_told cause (set_failure w.schema rows s c)) (λ _. [])
+    (λ cause. quiet_failure cause (set_failure w.schema rows s c)) (λ _. leads_nowhere)
+quiet_set w rows (body.Signal text) c = leads_nowhere
+quiet_set w rows (body.Data d) c = leads_nowhere
+
+quiet_before_row_run : (w : Context) (rows : List StoredRow) (t : Trigger) (c : Change) (when : Truth) → Quiet (before_row_run_told w rows t c when)
+quiet_before_row_run w rows t c when = by (is_true when)
   where
-    by : (on : Bool) → Quiet (if on then trigger_told rows t (change_frame c) else [])
-    by true = quiet_trigger rows t (change_frame c)
+    by : (b : Bool) → Quiet (ran_or_skipped t (change_frame c) when ∷ (if b then sets_told w rows t c else []))
+    by true =
+        λ db. lead_on db db db (ran_or_skipped t (change_frame c) when ∷ []) (sets_told w rows t c) (quiet_asked t (change_frame c) when db)
+        (quiet_turns (λ s. change_after_statement w rows t s.0 s.1) (λ s. set_told w rows s.1) (λ s between. quiet_set w rows s.1 between) (placed_statements t) c db)
+    by false = quiet_asked t (change_frame c) when
+
+quiet_before_row : (w : Context) (rows : List StoredRow) (t : Trigger) (c : Change) → Quiet (before_row_told w rows t c)
+quiet_before_row w rows t c = by (is_on c.table (event_of_change c) t)
+  where
+    by : (on : Bool) → Quiet (if on then when_told rows t (change_frame c) (before_row_run_told w rows t c) else [])
+    by true = quiet_when rows t (change_frame c) (before_row_run_told w rows t c) (quiet_before_row_run w rows t c)
     by false = leads_nowhere
 
 quiet_before_rows : (w : Context) (rows : List StoredRow) (columns : List TableColumn) (changes : List Change) → Quiet (before_rows_told w rows columns changes)
 quiet_before_rows w rows columns changes =
     quiet_turns (λ t. each (change_after_trigger w rows t)) (before_each_told w rows)
-    (λ t. quiet_each (change_after_trigger w rows t) (before_row_told rows t) (quiet_before_row rows t))
+    (λ t. quiet_each (change_after_trigger w rows t) (before_row_told w rows t) (quiet_before_row w rows t))
     (filter (is_before_row_on columns) w.schema.triggers) changes
 
 -- ---- one wave
@@ -338,7 +385,7 @@ module _ (w : Context) (run : Runs) (tell : Tells) (tells : RunsTell tell run) w
       inside_told at_of at.database (firing_told run tell x at) x.trigger.id
       (and_then (over at.database (holds (scope_of x.frame at.database.rows) x.trigger.when)) (λ fires.
       if fires then body_run run x (placed_statements x.trigger) at else Ok at))
-      (when_apart at_of at.database (truth (scope_of x.frame at.database.rows) x.trigger.when) (fired_told run tell x at)
+      (when_apart at_of at.database (truth (scope_of x.frame at.database.rows) x.trigger.when) (when_failure at.database.rows x.trigger x.frame) (fired_told run tell x at)
       (λ fires. if fires then body_run run x (placed_statements x.trigger) at else Ok at) (λ when. body_tells x when at))
 
   abbrev fired : DataStatement → Database → SettledWaves → List Firing
@@ -378,7 +425,7 @@ module _ (w : Context) (run : Runs) (tell : Tells) (tells : RunsTell tell run) w
   steps_tell : (d : DataStatement) (f : Frame) (db : Database) (budget : ℕ)
       → TellOf done_of db (level_steps_told run tell w d f db budget) (level_steps run w d f db budget)
   steps_tell d f db budget =
-      over_apart done_of db (proposed_wave w db f d)
+      over_apart done_of db (proposed_wave w db f d) (proposal_failure w.schema db.rows f d)
       (λ wave. before_statement_told w db.rows d ++ unless_refused (before_statement w db.rows d) (λ _. waves_and_after_told run tell w d db budget wave))
       (λ wave. and_then (with_count db (before_statement w db.rows d)) (λ _. and_then (settled_waves w db budget wave) (finish d db wave)))
       (proposed_apart w db f d) (λ wave.

@@ -4,3 +4,4 @@ pub mod Answers
 pub mod FittingStates
 pub mod Shapes
 pub mod AccountLaws
+pub mod FailureLaws

@@ -1,4 +1,5 @@
 //! Laws of accounts, each as the contract of a function that does nothing.
+ghost use Rattle.iv_laws_answers.specs.FailureLaws.{ProposalFailuresAreFound, QueryFailuresAreFound, SetFailuresAreFound, WhenFailuresAreFound};
 ghost use Rattle.iv_laws_answers.specs.AccountLaws.{LevelsAreTold, StatementsAreTold, AllThatBeginsEnds, NoViolationOfAccepted, OneViolationOfRefused};
 
 /// The waves of an accepted data statement's account, applied one after another, give the database that the statement
@@ -17,4 +18,12 @@ pub fn all_that_begins_ends()
 pub fn accounts_tell_violations()
     ensures accepted { NoViolationOfAccepted }
     ensures refused { OneViolationOfRefused }
+{}
+
+/// What failed is found wherever a statement is refused since a number is out of range or a text is too long.
+pub fn failures_are_found()
+    ensures proposal { ProposalFailuresAreFound }
+    ensures when { WhenFailuresAreFound }
+    ensures set { SetFailuresAreFound }
+    ensures query { QueryFailuresAreFound }
 {}

@@ -4,7 +4,9 @@
 mod accounts;
 mod laws;
 
-pub use accounts::{accounts_lead_on, accounts_tell_violations, all_that_begins_ends};
+pub use accounts::{
+    accounts_lead_on, accounts_tell_violations, all_that_begins_ends, failures_are_found,
+};
 pub use laws::{
     answers_want_no_memory, checks_are_well_typed, data_statements_want_no_memory,
     evaluation_wants_no_memory, queries_are_well_typed, reached_states_fit,

@@ -1,11 +1,13 @@
 -- The lines of an account, after those of the outcome.
 use Rattle.std.specs.Prelude.{ℕ, zero, suc, ◌-◌, Bool, true, false, if◌then◌else◌, List, [], ◌∷◌, ◌++◌, codes, decimal, slice_get, Option, Some, None, Result, Ok, Err}
 use Rattle.std.specs.List.{flat_map}
+use Rattle.std.specs.Fmt.{signed_decimal}
 use Rattle.iv_value.specs.declared.value.Value.{Value}
 use Rattle.iv_value.specs.declared.value.Truth.{Truth}
 use Rattle.iv_value.specs.declared.value.Truth.TheVariants.{False, Unknown, True}
 use Rattle.iv_key.specs.Keys.{key_of, none_null}
 use Rattle.iv_expr.specs.declared.row.StoredRow.{StoredRow}
+use Rattle.iv_expr.specs.declared.tree.Cond.{Cond}
 use Rattle.iv_expr.specs.declared.row.Change.{Change}
 use Rattle.iv_syntax.specs.declared.table.ReferentialAction.{ReferentialAction}
 use Rattle.iv_syntax.specs.declared.table.ReferentialAction.TheVariants as action
@@ -28,7 +30,22 @@ use Rattle.iv_account.specs.declared.entry.TriggerView.{TriggerView}
 use Rattle.iv_account.specs.declared.entry.SkippedView.{SkippedView}
 use Rattle.iv_account.specs.declared.entry.Disagreement.{Disagreement}
 use Rattle.iv_account.specs.declared.entry.Entry.{Entry}
-use Rattle.iv_account.specs.declared.entry.Entry.TheVariants.{Changed, Acted, Ran, Skipped, Began, Ended, Faulted, Disagreed}
+use Rattle.iv_account.specs.declared.entry.Entry.TheVariants.{Changed, Acted, Ran, Skipped, Began, Ended, Faulted, Disagreed, Failed}
+use Rattle.iv_account.specs.declared.failure.Operator.{Operator}
+use Rattle.iv_account.specs.declared.failure.Operator.TheVariants.{Plus, Minus, Times}
+use Rattle.iv_account.specs.declared.failure.ValueFailure.{ValueFailure}
+use Rattle.iv_account.specs.declared.failure.ValueFailure.TheVariants.{OutOfRange, TooLong}
+use Rattle.iv_account.specs.declared.failure.RowAtHand.{RowAtHand}
+use Rattle.iv_account.specs.declared.failure.RowAtHand.TheVariants as hand
+use Rattle.iv_account.specs.declared.failure.EvaluatedFor.{EvaluatedFor}
+use Rattle.iv_account.specs.declared.failure.EvaluatedFor.TheVariants as part
+use Rattle.iv_account.specs.declared.failure.FailedEvaluation.{FailedEvaluation}
+use Rattle.iv_print.specs.Conditions.{condition_text}
+use Rattle.iv_print.specs.declared.condition.Shown.TheVariants.{Names, Values}
+use Rattle.iv_print.specs.Rules.{columns_of, described_text}
+pub use Rattle.iv_print.specs.Lines.{table_name, column_name, column_name_in}
+pub use Rattle.iv_print.specs.Ways.{depth_after}
+use Rattle.iv_print.specs.Ways.{limit_line}
 use Rattle.iv_print.specs.Lines.{value_text, values_text, name_of, trigger_text, row_number_text}
 
 -- two spaces for each
@@ -41,21 +58,6 @@ abbrev pub indent : ℕ → List ℕ
 indent depth = codes "  " ++ spaces depth
 
 -- ---- names and rows
-
--- the name of a table that is there
-abbrev pub table_name : Option Table → List ℕ
-table_name (Some t) = t.name
-table_name None = []
-
--- the name of a column that is there
-abbrev pub column_name : Option Column → List ℕ
-column_name (Some c) = c.name
-column_name None = []
-
--- the name of the column at this place of a table
-abbrev pub column_name_in : Option Table → ℕ → List ℕ
-column_name_in (Some t) column = column_name (slice_get t.columns column)
-column_name_in None column = []
 
 -- a table and a number of a row
 abbrev pub numbered_text : Schema → ℕ → ℕ → List ℕ
@@ -176,12 +178,18 @@ key_text (other ∷ others) = equal_text other
 abbrev pub null_text : Schema → ℕ → ℕ → List ℕ
 null_text s table column = codes " has NULL in " ++ column_name_in (slice_get s.tables table) column
 
+-- the condition that is false, with the names of the columns of a table, and with the values of the row
+abbrev pub check_text : List Column → List Value → Cond → List ℕ
+check_text columns row condition =
+    codes " makes "
+    ++ (condition_text Names columns row condition ++ (codes " false (" ++ (condition_text Values columns row condition ++ codes ")")))
+
 -- what a rule of a table finds wrong with a row
 abbrev pub rule_text : Schema → Result Answer Refusal → StoredRow → List StoredRow → ℕ → Rule → List ℕ
 rule_text s outcome row others table (rule.ForeignKey k) = reference_text s outcome row.values k
 rule_text s outcome row others table (rule.PrimaryKey columns) = key_text others
 rule_text s outcome row others table (rule.Unique nulls columns) = key_text others
-rule_text s outcome row others table (rule.Check condition) = codes " makes its condition false"
+rule_text s outcome row others table (rule.Check condition) = check_text (columns_of (slice_get s.tables table)) row.values condition
 rule_text s outcome row others table (rule.NotNull column) = null_text s table column
 
 -- so of a constraint that is there
@@ -199,7 +207,7 @@ fault_rows_text s outcome constraint (row ∷ others) =
 abbrev pub fault_line : Schema → Result Answer Refusal → ℕ → ℕ → List StoredRow → List ℕ
 fault_line s outcome depth constraint rows =
     indent depth
-    ++ (name_of (slice_get s.constraints constraint)
+    ++ (described_text s (slice_get s.constraints constraint)
     ++ (codes ": " ++ (fault_rows_text s outcome (slice_get s.constraints constraint) rows ++ codes "\n")))
 
 -- ---- foreign keys that disagree
@@ -240,7 +248,45 @@ conflict_text s constraint (row ∷ others) how =
 abbrev pub conflict_line : Schema → ℕ → ℕ → List StoredRow → Disagreement → List ℕ
 conflict_line s depth constraint rows how =
     indent depth
-    ++ (name_of (slice_get s.constraints constraint) ++ (codes ": " ++ (conflict_text s constraint rows how ++ codes "\n")))
+    ++ (described_text s (slice_get s.constraints constraint) ++ (codes ": " ++ (conflict_text s constraint rows how ++ codes "\n")))
+
+-- ---- numbers out of range, and texts that are too long
+
+-- the column, the item of a SELECT or the condition that was evaluated
+abbrev pub part_name : Schema → EvaluatedFor → List ℕ
+part_name s (part.Column table column) = column_name_in (slice_get s.tables table) column
+part_name s (part.Item place) = codes "item " ++ decimal place
+part_name s part.Where = codes "WHERE"
+part_name s (part.When id) = codes "WHEN of trigger" ++ trigger_text s id
+
+-- with the table of a column
+abbrev pub part_in_table : Schema → EvaluatedFor → List ℕ
+part_in_table s (part.Column table column) =
+    column_name_in (slice_get s.tables table) column ++ (codes " of " ++ table_name (slice_get s.tables table))
+part_in_table s evaluated = part_name s evaluated
+
+-- what was evaluated, and the row at hand
+abbrev pub evaluated_text : Schema → EvaluatedFor → RowAtHand → List ℕ
+evaluated_text s evaluated (hand.Row r) =
+    part_name s evaluated ++ (codes " of " ++ (numbered_text s r.table r.number ++ listed_text r.values))
+evaluated_text s evaluated (hand.Source r) =
+    part_in_table s evaluated ++ (codes " from " ++ (numbered_text s r.table r.number ++ listed_text r.values))
+evaluated_text s evaluated (hand.Variables old new) =
+    part_in_table s evaluated ++ (side_text (codes " OLD") old ++ side_text (codes " NEW") new)
+
+abbrev pub operator_text : Operator → List ℕ
+operator_text Plus = codes " + "
+operator_text Minus = codes " - "
+operator_text Times = codes " * "
+
+abbrev pub failure_text : ValueFailure → List ℕ
+failure_text (OutOfRange left operator right) =
+    codes ": " ++ (signed_decimal left ++ (operator_text operator ++ (signed_decimal right ++ codes " is out of range")))
+failure_text (TooLong most length) =
+    (codes " is VARCHAR(" ++ (decimal most ++ codes "), and the text has ")) ++ (decimal length ++ codes " characters")
+
+abbrev pub failure_line : Schema → ℕ → FailedEvaluation → List ℕ
+failure_line s depth f = indent depth ++ (evaluated_text s f.part f.row ++ (failure_text f.failure ++ codes "\n"))
 
 -- ---- entries
 
@@ -259,12 +305,7 @@ entry_text s outcome depth (Began place) further = began_line depth place (ends_
 entry_text s outcome depth Ended further = []
 entry_text s outcome depth (Faulted fault rows) further = fault_line s outcome depth fault.constraint rows
 entry_text s outcome depth (Disagreed fault rows how) further = conflict_line s depth fault.constraint rows how
-
--- The data statement that begins is one deeper, up to its end.
-abbrev pub depth_after : ℕ → Entry → ℕ
-depth_after depth (Began place) = suc depth
-depth_after depth Ended = depth - 1
-depth_after depth _ = depth
+entry_text s outcome depth (Failed f) further = failure_line s depth f
 
 -- the lines of entries, of which the first is at this depth
 abbrev pub entries_text : Schema → Result Answer Refusal → ℕ → List Entry → List ℕ
@@ -274,4 +315,4 @@ entries_text s outcome depth (entry ∷ entries) =
 
 -- The lines of the account of a statement with this outcome, with names as the catalogue has them after it.
 abbrev pub account_text : Schema → Result Answer Refusal → List Entry → List ℕ
-account_text s outcome entries = entries_text s outcome 0 entries
+account_text s outcome entries = entries_text s outcome 0 entries ++ limit_line s entries outcome

@@ -1,15 +1,18 @@
 -- An account as JSON: an array of entries. The entries of a nested statement are an array in the entry with which it begins.
-use Rattle.std.specs.Prelude.{ℕ, zero, suc, Bool, true, false, if◌then◌else◌, List, [], ◌∷◌, ◌++◌, codes, decimal, slice_get, Option, Some, None, Result, Ok, Err}
+use Rattle.std.specs.Prelude.{ℕ, ℤ, zero, suc, Bool, true, false, if◌then◌else◌, List, [], ◌∷◌, ◌++◌, codes, decimal, slice_get, Option, Some, None, Result, Ok, Err}
 use Rattle.std.specs.List.{flat_map}
+use Rattle.std.specs.Fmt.{signed_decimal}
 use Rattle.iv_value.specs.declared.value.Value.{Value}
 use Rattle.iv_key.specs.Keys.{key_of, none_null}
 use Rattle.iv_expr.specs.declared.row.StoredRow.{StoredRow}
+use Rattle.iv_expr.specs.declared.tree.Cond.{Cond}
 use Rattle.iv_expr.specs.declared.row.Change.{Change}
 use Rattle.iv_syntax.specs.declared.table.ReferentialAction.{ReferentialAction}
 use Rattle.iv_syntax.specs.declared.table.ReferentialAction.TheVariants as action
 use Rattle.iv_syntax.specs.declared.trigger.TriggerEvent.{TriggerEvent}
 use Rattle.iv_syntax.specs.declared.trigger.TriggerEvent.TheVariants as event
 use Rattle.iv_catalogue.specs.Catalogues.{Schema, trigger_numbered}
+use Rattle.iv_catalogue.specs.declared.catalogue.Column.{Column}
 use Rattle.iv_catalogue.specs.declared.constraint.Constraint.{Constraint}
 use Rattle.iv_catalogue.specs.declared.constraint.ForeignKey.{ForeignKey}
 use Rattle.iv_catalogue.specs.declared.constraint.Rule.{Rule}
@@ -24,9 +27,23 @@ use Rattle.iv_account.specs.declared.entry.TriggerView.{TriggerView}
 use Rattle.iv_account.specs.declared.entry.SkippedView.{SkippedView}
 use Rattle.iv_account.specs.declared.entry.Disagreement.{Disagreement}
 use Rattle.iv_account.specs.declared.entry.Entry.{Entry}
-use Rattle.iv_account.specs.declared.entry.Entry.TheVariants.{Changed, Acted, Ran, Skipped, Began, Ended, Faulted, Disagreed}
+use Rattle.iv_account.specs.declared.entry.Entry.TheVariants.{Changed, Acted, Ran, Skipped, Began, Ended, Faulted, Disagreed, Failed}
+use Rattle.iv_account.specs.declared.failure.Operator.{Operator}
+use Rattle.iv_account.specs.declared.failure.Operator.TheVariants.{Plus, Minus, Times}
+use Rattle.iv_account.specs.declared.failure.ValueFailure.{ValueFailure}
+use Rattle.iv_account.specs.declared.failure.ValueFailure.TheVariants.{OutOfRange, TooLong}
+use Rattle.iv_account.specs.declared.failure.RowAtHand.{RowAtHand}
+use Rattle.iv_account.specs.declared.failure.RowAtHand.TheVariants as hand
+use Rattle.iv_account.specs.declared.failure.EvaluatedFor.{EvaluatedFor}
+use Rattle.iv_account.specs.declared.failure.EvaluatedFor.TheVariants as part
+use Rattle.iv_account.specs.declared.failure.FailedEvaluation.{FailedEvaluation}
 use Rattle.iv_print.specs.Lines.{name_of, trigger_name}
+use Rattle.iv_print.specs.Conditions.{condition_text}
+use Rattle.iv_print.specs.declared.condition.Shown.TheVariants.{Names, Values}
+use Rattle.iv_print.specs.Rules.{columns_of, constraint_words}
 use Rattle.iv_print.specs.AccountLines.{column_name_in, depth_after, ends_next, table_name, truth_name}
+use Rattle.iv_print.specs.Ways.{limit_of, limit_text}
+use Rattle.iv_print.specs.declared.way.Limit.{Limit}
 use Rattle.iv_print.specs.Json.{json_row, json_text, json_value, json_values, key, member}
 
 -- ---- rows and changes
@@ -135,12 +152,20 @@ abbrev pub null_members : Schema → ℕ → ℕ → List ℕ
 null_members s table column =
     because (codes "null") ++ (member (codes "column") ++ json_text (column_name_in (slice_get s.tables table) column))
 
+-- the condition that is false, with the names of the columns of a table, and with the values of the row
+abbrev pub check_members : List Column → List Value → Cond → List ℕ
+check_members columns row condition =
+    because (codes "false_condition")
+    ++ (member (codes "condition")
+    ++ (json_text (condition_text Names columns row condition)
+    ++ (member (codes "with_values") ++ json_text (condition_text Values columns row condition))))
+
 -- what a rule of a table finds wrong with a row
 abbrev pub rule_members : Schema → Result Answer Refusal → StoredRow → List StoredRow → ℕ → Rule → List ℕ
 rule_members s outcome row others table (rule.ForeignKey k) = reference_members s outcome row.values k
 rule_members s outcome row others table (rule.PrimaryKey columns) = key_members others
 rule_members s outcome row others table (rule.Unique nulls columns) = key_members others
-rule_members s outcome row others table (rule.Check condition) = because (codes "false_condition")
+rule_members s outcome row others table (rule.Check condition) = check_members (columns_of (slice_get s.tables table)) row.values condition
 rule_members s outcome row others table (rule.NotNull column) = null_members s table column
 
 -- so of a constraint that is there
@@ -183,6 +208,52 @@ conflict_members s constraint (row ∷ others) how =
     place_members s row.table row.number
     ++ (member (codes "values")
     ++ (json_row row.values ++ (refers_members s row.values constraint ++ settings_members s row.table how)))
+
+-- ---- numbers out of range, and texts that are too long
+
+-- what was evaluated: the value of a column, an item of a SELECT, or a condition
+abbrev pub part_members : Schema → EvaluatedFor → List ℕ
+part_members s (part.Column table column) =
+    member (codes "part")
+    ++ (json_text (codes "column")
+    ++ (member (codes "column_of")
+    ++ (json_text (table_name (slice_get s.tables table))
+    ++ (member (codes "column") ++ json_text (column_name_in (slice_get s.tables table) column)))))
+part_members s (part.Item place) =
+    member (codes "part") ++ (json_text (codes "item") ++ (member (codes "item") ++ decimal place))
+part_members s part.Where = member (codes "part") ++ json_text (codes "where")
+part_members s (part.When id) =
+    member (codes "part")
+    ++ (json_text (codes "when") ++ (member (codes "trigger") ++ json_text (trigger_name (trigger_numbered s id))))
+
+-- a row with its table and number
+abbrev pub stored_members : Schema → StoredRow → List ℕ
+stored_members s r = place_members s r.table r.number ++ (member (codes "values") ++ json_row r.values)
+
+-- the row at hand; it is said of one from which an INSERT takes its values
+abbrev pub hand_members : Schema → RowAtHand → List ℕ
+hand_members s (hand.Row r) = stored_members s r
+hand_members s (hand.Source r) = member (codes "source") ++ (codes "true" ++ stored_members s r)
+hand_members s (hand.Variables old new) = side_member (codes "old") old ++ side_member (codes "new") new
+
+abbrev pub operator_sign : Operator → List ℕ
+operator_sign Plus = codes "+"
+operator_sign Minus = codes "-"
+operator_sign Times = codes "*"
+
+abbrev pub integer_member : List ℕ → ℤ → List ℕ
+integer_member name number = member name ++ signed_decimal number
+
+abbrev pub operator_member : Operator → List ℕ
+operator_member operator = member (codes "operator") ++ json_text (operator_sign operator)
+
+-- the two numbers and the operator, or the length of the column and that of the text
+abbrev pub failure_members : ValueFailure → List ℕ
+failure_members (OutOfRange left operator right) =
+    because (codes "out_of_range")
+    ++ (integer_member (codes "left") left ++ (operator_member operator ++ integer_member (codes "right") right))
+failure_members (TooLong most length) =
+    because (codes "too_long") ++ (member (codes "most") ++ (decimal most ++ (member (codes "length") ++ decimal length)))
 
 -- ---- entries
 
@@ -234,19 +305,29 @@ began_entry place nothing =
     entry_key (codes "statement")
     ++ (member (codes "number") ++ (decimal place ++ (nothing_member nothing ++ (member (codes "account") ++ codes "["))))
 
+-- a constraint, and what it asks, if it is there
+abbrev pub asked_member : Schema → Option Constraint → List ℕ
+asked_member s (Some k) = member (codes "rule") ++ json_text (constraint_words s k)
+asked_member s None = []
+
+abbrev pub described_members : Schema → ℕ → List ℕ
+described_members s constraint =
+    member (codes "constraint")
+    ++ (json_text (name_of (slice_get s.constraints constraint)) ++ asked_member s (slice_get s.constraints constraint))
+
 abbrev pub violation_entry : Schema → Result Answer Refusal → ℕ → List StoredRow → List ℕ
 violation_entry s outcome constraint rows =
     entry_key (codes "violation")
-    ++ (member (codes "constraint")
-    ++ (json_text (name_of (slice_get s.constraints constraint))
-    ++ (violation_members s outcome (slice_get s.constraints constraint) rows ++ codes "}")))
+    ++ (described_members s constraint ++ (violation_members s outcome (slice_get s.constraints constraint) rows ++ codes "}"))
 
 abbrev pub conflict_entry : Schema → ℕ → List StoredRow → Disagreement → List ℕ
 conflict_entry s constraint rows how =
     entry_key (codes "violation")
-    ++ (member (codes "constraint")
-    ++ (json_text (name_of (slice_get s.constraints constraint))
-    ++ (conflict_members s (slice_get s.constraints constraint) rows how ++ codes "}")))
+    ++ (described_members s constraint ++ (conflict_members s (slice_get s.constraints constraint) rows how ++ codes "}"))
+
+abbrev pub failure_entry : Schema → FailedEvaluation → List ℕ
+failure_entry s f =
+    entry_key (codes "failure") ++ (part_members s f.part ++ (hand_members s f.row ++ (failure_members f.failure ++ codes "}")))
 
 -- an entry before these further entries
 abbrev pub json_entry : Schema → Result Answer Refusal → Entry → List Entry → List ℕ
@@ -258,6 +339,7 @@ json_entry s outcome (Began place) further = began_entry place (ends_next furthe
 json_entry s outcome Ended further = codes "]}"
 json_entry s outcome (Faulted fault rows) further = violation_entry s outcome fault.constraint rows
 json_entry s outcome (Disagreed fault rows how) further = conflict_entry s fault.constraint rows how
+json_entry s outcome (Failed f) further = failure_entry s f
 
 -- what stands between an entry and what is before it: a comma, unless it is the first of its array, or ends one
 abbrev pub separator : Bool → Entry → List ℕ
@@ -282,6 +364,20 @@ json_entries s outcome depth first (entry ∷ entries) =
     separator first entry
     ++ (json_entry s outcome entry entries ++ json_entries s outcome (depth_after depth entry) (begins entry) entries)
 
+-- a further entry, if there are some
+abbrev pub limit_separator : List Entry → List ℕ
+limit_separator [] = []
+limit_separator (entry ∷ entries) = codes ","
+
+-- which limit, and the way that led there
+abbrev pub limit_object : Schema → List Entry → Limit → List ℕ
+limit_object s entries limit = entry_key (codes "limit") ++ (member (codes "text") ++ (json_text (limit_text s entries limit) ++ codes "}"))
+
+-- the last entry of a statement that is refused for a limit
+abbrev pub limit_entry : Schema → List Entry → Result Answer Refusal → List ℕ
+limit_entry s entries (Ok a) = []
+limit_entry s entries (Err r) = elim (limit_of r.cause) [ Some limit ↦ limit_separator entries ++ limit_object s entries limit | None ↦ [] ]
+
 -- The account of a statement with this outcome, with names as the catalogue has them after it.
 abbrev pub json_account : Schema → Result Answer Refusal → List Entry → List ℕ
-json_account s outcome entries = codes "[" ++ (json_entries s outcome 0 true entries ++ codes "]")
+json_account s outcome entries = codes "[" ++ (json_entries s outcome 0 true entries ++ (limit_entry s entries outcome ++ codes "]"))

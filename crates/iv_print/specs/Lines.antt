@@ -5,6 +5,8 @@ use Rattle.std.specs.List.{flat_map}
 use Rattle.iv_value.specs.declared.value.Value.{Value}
 use Rattle.iv_value.specs.declared.value.Value.TheVariants.{Null, Int, Text}
 use Rattle.iv_catalogue.specs.Catalogues.{Schema, trigger_numbered}
+use Rattle.iv_catalogue.specs.declared.catalogue.Column.{Column}
+use Rattle.iv_catalogue.specs.declared.catalogue.Table.{Table}
 use Rattle.iv_catalogue.specs.declared.constraint.Constraint.{Constraint}
 use Rattle.iv_catalogue.specs.declared.cause.Cause.{Cause}
 use Rattle.iv_catalogue.specs.declared.cause.Cause.TheVariants as cause
@@ -20,11 +22,15 @@ use Rattle.iv_machine.specs.declared.answer.Answer.TheVariants.{Done, Changed, R
 abbrev pub quote_doubled : ℕ → List ℕ
 quote_doubled b = if b == 39 then codes "''" else b ∷ []
 
+-- a text between single quotes, with two quotes for each one
+abbrev pub quoted_text : List ℕ → List ℕ
+quoted_text t = codes "'" ++ (flat_map quote_doubled t ++ codes "'")
+
 -- NULL, a decimal integer, or a text between single quotes
 abbrev pub value_text : Value → List ℕ
 value_text Null = codes "NULL"
 value_text (Int z) = signed_decimal z
-value_text (Text t) = codes "'" ++ (flat_map quote_doubled t ++ codes "'")
+value_text (Text t) = quoted_text t
 
 -- a value after another
 abbrev pub further_text : Value → List ℕ
@@ -36,6 +42,23 @@ values_text (v ∷ vs) = value_text v ++ flat_map further_text vs
 
 abbrev pub row_text : List Value → List ℕ
 row_text row = codes "| " ++ (values_text row ++ codes "\n")
+
+-- ---- names
+
+-- the name of a table that is there
+abbrev pub table_name : Option Table → List ℕ
+table_name (Some t) = t.name
+table_name None = []
+
+-- the name of a column that is there
+abbrev pub column_name : Option Column → List ℕ
+column_name (Some c) = c.name
+column_name None = []
+
+-- the name of the column at this place of a table
+abbrev pub column_name_in : Option Table → ℕ → List ℕ
+column_name_in (Some t) column = column_name (slice_get t.columns column)
+column_name_in None column = []
 
 -- the name of the constraint with this number
 abbrev pub name_of : Option Constraint → List ℕ

@@ -8,9 +8,10 @@ use Rattle.iv_machine.specs.declared.answer.Answer.TheVariants.{Done}
 use Rattle.iv_account.specs.declared.entry.Entry.{Entry}
 use Rattle.iv_account.specs.declared.entry.Entry.TheVariants.{Faulted}
 use Rattle.iv_print.specs.Lines.{name_of}
+use Rattle.iv_print.specs.Rules.{described_text}
 use Rattle.iv_print.specs.AccountLines.{fault_rows_text, numbered_text}
 use Rattle.iv_print.specs.Json.{json_text, key, member}
-use Rattle.iv_print.specs.JsonAccounts.{json_account, place_members}
+use Rattle.iv_print.specs.JsonAccounts.{asked_member, json_account, place_members}
 
 -- ---- in words
 
@@ -18,7 +19,7 @@ use Rattle.iv_print.specs.JsonAccounts.{json_account, place_members}
 abbrev pub came_line : Schema → Entry → List ℕ
 came_line s (Faulted fault rows) =
     codes "  now pending "
-    ++ (name_of (slice_get s.constraints fault.constraint)
+    ++ (described_text s (slice_get s.constraints fault.constraint)
     ++ (codes ": " ++ (fault_rows_text s (Ok Done) (slice_get s.constraints fault.constraint) rows ++ codes "\n")))
 came_line s _ = []
 
@@ -31,7 +32,7 @@ row_of_text s None row = []
 abbrev pub went_line : Schema → Fault → List ℕ
 went_line s f =
     codes "  no longer pending "
-    ++ (name_of (slice_get s.constraints f.constraint) ++ (codes ": " ++ (row_of_text s (slice_get s.constraints f.constraint) f.row ++ codes "\n")))
+    ++ (described_text s (slice_get s.constraints f.constraint) ++ (codes ": " ++ (row_of_text s (slice_get s.constraints f.constraint) f.row ++ codes "\n")))
 
 -- The lines of the violations that came, and then of those that went.
 abbrev pub pending_lines : Schema → List Entry → List Fault → List ℕ
@@ -48,12 +49,14 @@ abbrev pub row_of_members : Schema → Option Constraint → ℕ → List ℕ
 row_of_members s (Some k) row = place_members s k.table row
 row_of_members s None row = []
 
--- a constraint, and a row of its table
+-- a constraint, what it asks, and a row of its table
 abbrev pub went_object : Schema → Fault → List ℕ
 went_object s f =
     codes "{"
     ++ (key (codes "constraint")
-    ++ (json_text (name_of (slice_get s.constraints f.constraint)) ++ (row_of_members s (slice_get s.constraints f.constraint) f.row ++ codes "}")))
+    ++ (json_text (name_of (slice_get s.constraints f.constraint))
+    ++ (asked_member s (slice_get s.constraints f.constraint)
+    ++ (row_of_members s (slice_get s.constraints f.constraint) f.row ++ codes "}"))))
 
 abbrev pub further_went : Schema → Fault → List ℕ
 further_went s f = codes "," ++ went_object s f

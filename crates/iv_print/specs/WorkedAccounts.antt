@@ -7,7 +7,10 @@ use Rattle.iv_value.specs.declared.value.Truth.{Truth}
 use Rattle.iv_value.specs.declared.value.Truth.TheVariants.{False, Unknown}
 use Rattle.iv_expr.specs.declared.row.StoredRow.{StoredRow}
 use Rattle.iv_expr.specs.declared.row.Change.{Change}
-use Rattle.iv_expr.specs.declared.tree.Cond.TheVariants.{Always}
+use Rattle.iv_expr.specs.declared.tree.Comparison.TheVariants.{Greater}
+use Rattle.iv_expr.specs.declared.tree.Cond.{Cond}
+use Rattle.iv_expr.specs.declared.tree.Cond.TheVariants.{Always, Compare}
+use Rattle.iv_expr.specs.declared.tree.Expr.TheVariants as expr
 use Rattle.iv_syntax.specs.declared.table.MatchType.TheVariants.{Simple}
 use Rattle.iv_syntax.specs.declared.table.NullTreatment.TheVariants.{Distinct}
 use Rattle.iv_syntax.specs.declared.table.ReferentialAction.{ReferentialAction}
@@ -69,9 +72,13 @@ trigger id name each = record {
   body = [];
 }
 
+-- x > m
+abbrev pub x_exceeds_m : Cond
+x_exceeds_m = Compare Greater (expr.Column 0 0) (expr.Column 0 1)
+
 -- CREATE TABLE p (k INTEGER CONSTRAINT p_key PRIMARY KEY); CREATE TABLE c (x INTEGER CONSTRAINT c_parent REFERENCES p, m INTEGER,
--- CONSTRAINT c_one UNIQUE (m), CONSTRAINT c_right CHECK (..), CONSTRAINT c_mark NOT NULL of m, CONSTRAINT c_both FOREIGN KEY (m, x)
--- REFERENCES p ..); three triggers, of which the first was dropped. Such tables tell names from each other; no statement makes them.
+-- CONSTRAINT c_one UNIQUE (m), CONSTRAINT c_right CHECK (x > m), CONSTRAINT c_mark NOT NULL of m, CONSTRAINT c_both FOREIGN KEY (m, x)
+-- REFERENCES p .., UNIQUE (x, m), CHECK (x > m)); three triggers, of which the first was dropped. Such tables tell names from each other; no statement makes them.
 abbrev pub schema : Schema
 schema = record {
   tables = record { name = codes "P"; columns = column (codes "K") ∷ [] }
@@ -79,9 +86,10 @@ schema = record {
   constraints = constraint (codes "P_KEY") 0 (rule.PrimaryKey (0 ∷ []))
       ∷ constraint (codes "C_PARENT") 1
       (references (0 ∷ []))
-      ∷ constraint (codes "C_ONE") 1 (rule.Unique Distinct (1 ∷ [])) ∷ constraint (codes "C_RIGHT") 1 (rule.Check Always)
+      ∷ constraint (codes "C_ONE") 1 (rule.Unique Distinct (1 ∷ [])) ∷ constraint (codes "C_RIGHT") 1 (rule.Check x_exceeds_m)
       ∷ constraint (codes "C_MARK") 1 (rule.NotNull 1)
-      ∷ constraint (codes "C_BOTH") 1 (references (1 ∷ 0 ∷ [])) ∷ [];
+      ∷ constraint (codes "C_BOTH") 1 (references (1 ∷ 0 ∷ [])) ∷ constraint (codes "C_C7") 1 (rule.Unique Distinct (0 ∷ 1 ∷ []))
+      ∷ constraint (codes "C_C8") 1 (rule.Check x_exceeds_m) ∷ [];
   triggers = trigger 1 (codes "COUNTED") granularity.Statement ∷ trigger 2 (codes "EACH") granularity.Row ∷ [];
   created = 3;
 }
@@ -164,6 +172,22 @@ pub record WorkedAccounts : Type 0 where
       ∷ Began 3 ∷ Ended ∷ ran_on 1 None None [] ∷ [])
       ≡ codes "  trigger COUNTED\n  statement 1\n    insert P row 4 (4)\n    trigger COUNTED\n      saw insert P row 4 (4)\n"
       ++ codes "    statement 2\n      C_PARENT CASCADE on C row 2\n  statement 3 changes nothing\n  trigger COUNTED\n"
+  pub depth_is_the_limit : account_text schema (refused (cause.DepthLimit 2))
+      (ran_on 1 None None [] ∷ Began 1 ∷ Ended ∷ ran_on 2 (Some (int 1 ∷ [])) None [] ∷ Began 2 ∷ Changed (inserted 0 4 (int 4 ∷ []) ∷ []) ∷ ran_on 1 None None []
+      ∷ Began 3 ∷ [])
+      ≡ codes "  trigger COUNTED\n  statement 1 changes nothing\n  trigger EACH OLD (1)\n  statement 2\n    insert P row 4 (4)\n    trigger COUNTED\n    statement 3\n"
+      ++ codes "  depth 3, and 2 is the most: EACH statement 2, COUNTED statement 3\n"
+  pub changes_are_the_limit : account_text schema (refused cause.TooManyChanges)
+      (Changed (inserted 0 1 (int 1 ∷ []) ∷ inserted 0 2 (int 2 ∷ []) ∷ []) ∷ [])
+      ≡ codes "  insert P row 1 (1)\n  insert P row 2 (2)\n  counted so far 3, and this or the next row changes are too many\n"
+  pub transaction_is_the_limit : account_text schema (refused cause.TransactionTooLarge) [] ≡ codes "  a transaction has at most 1048576 row changes\n"
+  -- the first three and the last of five
+  pub long_way : account_text schema (refused (cause.DepthLimit 1))
+      (ran_on 1 None None [] ∷ Began 1 ∷ ran_on 1 None None [] ∷ Began 2 ∷ ran_on 1 None None [] ∷ Began 3 ∷ ran_on 1 None None [] ∷ Began 4
+      ∷ ran_on 1 None None [] ∷ Began 5 ∷ [])
+      ≡ codes "  trigger COUNTED\n  statement 1\n    trigger COUNTED\n    statement 2\n      trigger COUNTED\n      statement 3\n"
+      ++ codes "        trigger COUNTED\n        statement 4\n          trigger COUNTED\n          statement 5\n"
+      ++ codes "  depth 6, and 5 is the most: COUNTED statement 1, COUNTED statement 2, COUNTED statement 3, .., COUNTED statement 5\n"
   pub fault_in_a_body : account_text schema (refused (cause.Violation (fault 0)))
       (Began 1 ∷ Faulted (fault 0) (stored 0 2 (int 1 ∷ []) ∷ stored 0 1 (int 1 ∷ []) ∷ []) ∷ [])
       ≡ codes "  statement 1\n    P_KEY: P row 2 (1) has the key of row 1 (1)\n"
@@ -197,8 +221,13 @@ pub record WorkedAccounts : Type 0 where
   pub same_key : violation_text 2 (stored 1 2 (int 1 ∷ int 5 ∷ []) ∷ stored 1 4 (int 2 ∷ int 5 ∷ []) ∷ [])
       ≡ codes "  C_ONE: C row 2 (1, 5) has the key of row 4 (2, 5)\n"
   pub condition_is_false : violation_text 3 (stored 1 2 (int 1 ∷ int 5 ∷ []) ∷ [])
-      ≡ codes "  C_RIGHT: C row 2 (1, 5) makes its condition false\n"
+      ≡ codes "  C_RIGHT: C row 2 (1, 5) makes X > M false (1 > 5)\n"
   pub column_is_null : violation_text 4 (stored 1 2 (int 1 ∷ Null ∷ []) ∷ []) ≡ codes "  C_MARK: C row 2 (1, NULL) has NULL in M\n"
+  -- a name that was generated stands with what the constraint asks
+  pub same_key_without_a_name : violation_text 6 (stored 1 2 (int 1 ∷ int 5 ∷ []) ∷ stored 1 4 (int 1 ∷ int 5 ∷ []) ∷ [])
+      ≡ codes "  C_C7 (UNIQUE (X, M)): C row 2 (1, 5) has the key of row 4 (1, 5)\n"
+  pub condition_without_a_name : violation_text 7 (stored 1 2 (int 1 ∷ int 5 ∷ []) ∷ [])
+      ≡ codes "  C_C8 (CHECK): C row 2 (1, 5) makes X > M false (1 > 5)\n"
   -- the machine tells no violation without a row, and none of a constraint that isn't there
   pub no_row : violation_text 0 [] ≡ codes "  P_KEY: \n"
   pub no_constraint : violation_text 9 (stored 1 2 (int 1 ∷ []) ∷ []) ≡ codes "  : C row 2 (1)\n"

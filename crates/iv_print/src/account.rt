@@ -1,5 +1,5 @@
 //! The text of an account.
-ghost use Rattle.std.specs.Prelude.{◌≡◌, ◌<◌, ◌-◌, ◌^◌, ◌++◌, slice_get};
+ghost use Rattle.std.specs.Prelude.{◌≡◌, ◌++◌, slice_get};
 ghost use Rattle.std.specs.List.{flat_map};
 ghost use Rattle.std.specs.Option.{option_copied};
 ghost use Rattle.iv_value.specs.References.{value_of};
@@ -7,11 +7,15 @@ ghost use Rattle.iv_key.specs.Keys.{key_of};
 ghost use Rattle.iv_machine.specs.BeforeTriggers.{event_of_change};
 ghost use Rattle.iv_print.specs.Writing.{Writes};
 ghost use Rattle.iv_print.specs.Lines.{value_text, further_text, values_text};
-ghost use Rattle.iv_print.specs.AccountLines.{spaces, indent, table_name, column_name, column_name_in, numbered_text, listed_text, side_text, verb, sides_text, change_text, change_line, change_lines, action_words, action_line, action_lines, asked_text, ran_lines, truth_name, skipped_line, nothing_text, began_line, reference_words_of, referenced_text, reference_text, equal_text, key_text, null_text, rule_text, constraint_rule_text, fault_rows_text, fault_line, ends_next, entry_text, depth_after, account_text};
+ghost use Rattle.iv_print.specs.AccountLines.{spaces, indent, table_name, column_name, column_name_in, numbered_text, listed_text, side_text, verb, sides_text, change_text, change_line, change_lines, action_words, action_line, action_lines, asked_text, ran_lines, truth_name, skipped_line, nothing_text, began_line, reference_words_of, referenced_text, reference_text, equal_text, key_text, null_text, rule_text, constraint_rule_text, fault_rows_text, fault_line, ends_next, entry_text, entries_text, account_text};
 
+use crate::check::write_check;
 use crate::conflict::write_conflict;
 use crate::device::{DeviceFault, Sink};
+use crate::failure::write_failure;
 use crate::outcome::{write_borrowed, write_name, write_row_number, write_trigger, write_values};
+use crate::rule::write_described;
+use crate::way::{depth_after, write_limit_line};
 use crate::write::{write_all, write_number};
 use iv_account::{Entry, RowAction, SkippedView, TriggerView};
 use iv_catalogue::{
@@ -42,7 +46,8 @@ pub(crate) fn write_indent<W: Sink>(sink: &mut W, depth: usize) -> Result<(), De
     write_spaces(sink, depth)
 }
 
-fn write_table<W: Sink>(sink: &mut W, table: Option<&Table>) -> Result<(), DeviceFault>
+/// The name of a table, where it is there.
+pub(crate) fn write_table<W: Sink>(sink: &mut W, table: Option<&Table>) -> Result<(), DeviceFault>
     ensures { Writes (W.state sink.old) (W.state sink.new) result
         (table_name (option_copied table.entry)) }
 {
@@ -100,8 +105,12 @@ pub(crate) fn write_listed<W: Sink>(sink: &mut W, values: &[Value]) -> Result<()
     write_all(sink, b")")
 }
 
-// A row after these words, where there is one.
-fn write_side<W: Sink>(sink: &mut W, words: &[u8], side: &Option<Row>) -> Result<(), DeviceFault>
+/// A row after these words, where there is one.
+pub(crate) fn write_side<W: Sink>(
+    sink: &mut W,
+    words: &[u8],
+    side: &Option<Row>,
+) -> Result<(), DeviceFault>
     ensures { Writes (W.state sink.old) (W.state sink.new) result (side_text words.now side.now) }
 {
     match side {
@@ -493,7 +502,13 @@ fn write_rule<W: Sink>(
         }
         Rule::PrimaryKey(_) => write_key(sink, others),
         Rule::Unique(_, _) => write_key(sink, others),
-        Rule::Check(_) => write_all(sink, b" makes its condition false"),
+        Rule::Check(condition) => write_check(
+            sink,
+            catalogue,
+            constraint.table,
+            row.values.values(),
+            condition,
+        ),
         Rule::NotNull(column) => write_null(sink, catalogue, constraint.table, *column),
     }
 }
@@ -551,7 +566,7 @@ fn write_fault<W: Sink>(
         (fault_line catalogue.now outcome.now depth constraint rows.now) }
 {
     write_indent(sink, depth)?;
-    write_name(sink, catalogue.constraints(), constraint)?;
+    write_described(sink, catalogue, constraint)?;
     write_all(sink, b": ")?;
     write_fault_rows(sink, catalogue, outcome, constraint, rows)?;
     write_all(sink, b"\n")
@@ -602,19 +617,28 @@ fn write_entry<W: Sink>(
             rows.as_slice(),
             how,
         ),
+        Entry::Failed(failed) => write_failure(sink, catalogue, depth, failed),
     }
 }
 
-/// How deep the entry after this one is.
-pub(crate) fn depth_after(depth: usize, entry: &Entry) -> usize
-    requires { depth < 2 ^ 64 - 1 }
-    ensures { result ≡ depth_after depth entry.now }
+// The lines of the entries.
+fn write_entries<W: Sink>(
+    sink: &mut W,
+    catalogue: &Catalogue,
+    outcome: &Result<Answer, Refusal>,
+    entries: &[Entry],
+) -> Result<(), DeviceFault>
+    ensures { Writes (W.state sink.old) (W.state sink.new) result
+        (entries_text catalogue.now outcome.now 0 entries.now) }
 {
-    match entry {
-        Entry::Began(_) => depth + 1,
-        Entry::Ended => depth.saturating_sub(1),
-        _ => depth,
+    let mut rest = entries;
+    let mut depth = 0usize;
+    while let Some((entry, others)) = rest.split_first() {
+        write_entry(sink, catalogue, outcome, depth, entry, others)?;
+        depth = depth_after(depth, entry);
+        rest = others;
     }
+    Ok(())
 }
 
 /// Writes the lines of the account of a statement with this outcome, with the names of tables, columns, constraints
@@ -628,12 +652,6 @@ pub fn write_account<W: Sink>(
     ensures { Writes (W.state sink.old) (W.state sink.new) result
         (account_text catalogue.now outcome.now entries.now) }
 {
-    let mut rest = entries;
-    let mut depth = 0usize;
-    while let Some((entry, others)) = rest.split_first() {
-        write_entry(sink, catalogue, outcome, depth, entry, others)?;
-        depth = depth_after(depth, entry);
-        rest = others;
-    }
-    Ok(())
+    write_entries(sink, catalogue, outcome, entries)?;
+    write_limit_line(sink, catalogue, entries, outcome)
 }

@@ -9,6 +9,7 @@ use crate::account::{
 };
 use crate::device::{DeviceFault, Sink};
 use crate::outcome::{write_name, write_value};
+use crate::rule::write_described;
 use crate::write::write_all;
 use iv_account::Disagreement;
 use iv_catalogue::{Catalogue, Constraint, ConstraintId, Rule};
@@ -136,7 +137,7 @@ pub(crate) fn write_conflict<W: Sink>(
         (conflict_line catalogue.now depth constraint rows.now how.now) }
 {
     write_indent(sink, depth)?;
-    write_name(sink, catalogue.constraints(), constraint)?;
+    write_described(sink, catalogue, constraint)?;
     write_all(sink, b": ")?;
     write_row(sink, catalogue, constraint, rows, how)?;
     write_all(sink, b"\n")

@@ -10,13 +10,18 @@ ghost use Rattle.iv_print.specs.Json.{further_value, json_text, json_values};
 ghost use Rattle.iv_print.specs.JsonAccounts.{acted_entry, acting_members, action_name, because, began_entry, begins, changed_entry, changes_nothing, constraint_rule_members, ends, entry_key, equal_members, event_member, event_name, further_action, further_change, json_account, json_action, json_actions, json_change, json_changes, json_entries, json_entry, key_members, nothing_member, null_members, place_members, ran_entry, reference_members, reference_reason, referenced_members, rule_members, saw_member, seen_members, skipped_entry, skipped_members, separator, side_member, side_members, violation_entry, violation_members};
 ghost use Rattle.iv_machine.specs.BeforeTriggers.{event_of_change};
 
-use crate::account::{depth_after, ends_next, truth_name};
+use crate::account::{ends_next, truth_name};
+use crate::check::write_check_members;
 use crate::device::{DeviceFault, Sink};
 use crate::json::{
     write_borrowed, write_json_text, write_key, write_member, write_name, write_number_member,
     write_row, write_text_member, write_trigger_name,
 };
 use crate::json_conflict::write_conflict;
+use crate::json_failure::write_failure;
+use crate::json_rule::write_described;
+use crate::json_way::write_limit_entry;
+use crate::way::depth_after;
 use crate::write::{write_all, write_number};
 use iv_account::{Entry, RowAction, SkippedView, TriggerView};
 use iv_catalogue::{
@@ -30,7 +35,8 @@ use iv_value::{Value, ValueRef};
 
 // ---- rows and changes
 
-fn write_table<W: Sink>(sink: &mut W, table: Option<&Table>) -> Result<(), DeviceFault>
+/// The name of a table, where it is there.
+pub(crate) fn write_table<W: Sink>(sink: &mut W, table: Option<&Table>) -> Result<(), DeviceFault>
     ensures { Writes (W.state sink.old) (W.state sink.new) result
         (json_text (table_name (option_copied table.entry))) }
 {
@@ -55,8 +61,12 @@ pub(crate) fn write_place<W: Sink>(
     write_number_member(sink, b"row", row)
 }
 
-// A row by this name, where there is one.
-fn write_side<W: Sink>(sink: &mut W, name: &[u8], side: &Option<Row>) -> Result<(), DeviceFault>
+/// A row by this name, where there is one.
+pub(crate) fn write_side<W: Sink>(
+    sink: &mut W,
+    name: &[u8],
+    side: &Option<Row>,
+) -> Result<(), DeviceFault>
     ensures { Writes (W.state sink.old) (W.state sink.new) result (side_member name.now side.now) }
 {
     match side {
@@ -437,7 +447,13 @@ fn write_rule<W: Sink>(
         }
         Rule::PrimaryKey(_) => write_equal_key(sink, others),
         Rule::Unique(_, _) => write_equal_key(sink, others),
-        Rule::Check(_) => write_because(sink, b"false_condition"),
+        Rule::Check(condition) => write_check_members(
+            sink,
+            catalogue,
+            constraint.table,
+            row.values.values(),
+            condition,
+        ),
         Rule::NotNull(column) => write_null(sink, catalogue, constraint.table, *column),
     }
 }
@@ -636,8 +652,7 @@ fn write_faulted<W: Sink>(
         (violation_entry catalogue.now outcome.now constraint rows.now) }
 {
     write_entry_key(sink, b"violation")?;
-    write_member(sink, b"constraint")?;
-    write_name(sink, catalogue.constraints(), constraint)?;
+    write_described(sink, catalogue, constraint)?;
     write_violation(sink, catalogue, outcome, constraint, rows)?;
     write_all(sink, b"}")
 }
@@ -666,6 +681,7 @@ fn write_entry<W: Sink>(
         Entry::Disagreed(fault, rows, how) => {
             write_conflict(sink, catalogue, fault.constraint, rows.as_slice(), how)
         }
+        Entry::Failed(failed) => write_failure(sink, catalogue, failed),
     }
 }
 
@@ -751,5 +767,6 @@ pub fn write_json_account<W: Sink>(
 {
     write_all(sink, b"[")?;
     write_entries(sink, catalogue, outcome, entries)?;
+    write_limit_entry(sink, catalogue, entries, outcome)?;
     write_all(sink, b"]")
 }

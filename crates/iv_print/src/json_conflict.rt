@@ -9,6 +9,7 @@ use crate::json::{write_member, write_name, write_row, write_value};
 use crate::json_account::{
     write_because, write_column_in, write_entry_key, write_place, write_referenced,
 };
+use crate::json_rule::write_described;
 use crate::write::write_all;
 use iv_account::Disagreement;
 use iv_catalogue::{Catalogue, Constraint, ConstraintId, Rule};
@@ -107,8 +108,7 @@ pub(crate) fn write_conflict<W: Sink>(
         (conflict_entry catalogue.now constraint rows.now how.now) }
 {
     write_entry_key(sink, b"violation")?;
-    write_member(sink, b"constraint")?;
-    write_name(sink, catalogue.constraints(), constraint)?;
+    write_described(sink, catalogue, constraint)?;
     write_first(sink, catalogue, constraint, rows, how)?;
     write_all(sink, b"}")
 }

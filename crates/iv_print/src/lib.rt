@@ -4,14 +4,25 @@
 mod account;
 mod buffered;
 mod cause;
+mod check;
+mod condition;
 mod conflict;
 mod device;
+mod failure;
 mod format;
 mod json;
 mod json_account;
 mod json_conflict;
+mod json_failure;
+mod json_rule;
+mod json_way;
 mod outcome;
 mod pending;
+mod rule;
+mod spelled;
+mod spelled_number;
+mod spelled_value;
+mod way;
 mod write;
 
 pub use account::write_account;
@@ -26,4 +37,7 @@ pub use json::{
 pub use json_account::write_json_account;
 pub use outcome::{cause_words, signal_text, write_first_line, write_outcome, write_row_lines};
 pub use pending::{write_pending_lines, write_pending_members};
+pub use spelled::{tell, tell_between, tell_both};
+pub use spelled_number::{tell_number, tell_number_after, tell_number_between, tell_numbered};
+pub use spelled_value::tell_quoted;
 pub use write::{write_all, write_number};

@@ -3,7 +3,7 @@ ghost use Rattle.std.specs.Prelude.{◌++◌, codes, slice_get, Ok};
 ghost use Rattle.std.specs.List.{flat_map};
 ghost use Rattle.std.specs.Option.{option_copied};
 ghost use Rattle.iv_machine.specs.declared.answer.Answer.TheVariants.{Done};
-ghost use Rattle.iv_print.specs.Lines.{name_of};
+ghost use Rattle.iv_print.specs.Rules.{described_text};
 ghost use Rattle.iv_print.specs.AccountLines.{fault_rows_text};
 ghost use Rattle.iv_print.specs.Json.{member};
 ghost use Rattle.iv_print.specs.JsonAccounts.{json_account};
@@ -14,7 +14,8 @@ use crate::account::{write_fault_rows, write_numbered};
 use crate::device::{DeviceFault, Sink};
 use crate::json::{write_key, write_member, write_name as write_json_name};
 use crate::json_account::{write_json_account, write_place};
-use crate::outcome::write_name;
+use crate::json_rule::write_asked;
+use crate::rule::write_described;
 use crate::write::write_all;
 use iv_account::Entry;
 use iv_catalogue::{Catalogue, Constraint, ConstraintId, Fault, Refusal};
@@ -47,13 +48,13 @@ fn write_violation<W: Sink>(
 ) -> Result<(), DeviceFault>
     ensures { Writes (W.state sink.old) (W.state sink.new) result
         (codes "  now pending "
-        ++ (name_of (slice_get catalogue.now.constraints constraint)
+        ++ (described_text catalogue.now (slice_get catalogue.now.constraints constraint)
         ++ (codes ": "
         ++ (fault_rows_text catalogue.now (Ok Done) (slice_get catalogue.now.constraints constraint) rows.now
         ++ codes "\n")))) }
 {
     write_all(sink, b"  now pending ")?;
-    write_name(sink, catalogue.constraints(), constraint)?;
+    write_described(sink, catalogue, constraint)?;
     write_all(sink, b": ")?;
     write_rows(sink, catalogue, constraint, rows)?;
     write_all(sink, b"\n")
@@ -126,7 +127,7 @@ fn write_went<W: Sink>(
     ensures { Writes (W.state sink.old) (W.state sink.new) result (went_line catalogue.now fault.now) }
 {
     write_all(sink, b"  no longer pending ")?;
-    write_name(sink, catalogue.constraints(), fault.constraint)?;
+    write_described(sink, catalogue, fault.constraint)?;
     write_all(sink, b": ")?;
     write_row_at(sink, catalogue, fault.constraint, fault.row)?;
     write_all(sink, b"\n")
@@ -221,6 +222,7 @@ fn write_went_object<W: Sink>(
     write_all(sink, b"{")?;
     write_key(sink, b"constraint")?;
     write_json_name(sink, catalogue.constraints(), fault.constraint)?;
+    write_asked(sink, catalogue, fault.constraint)?;
     write_row_members(
         sink,
         catalogue,

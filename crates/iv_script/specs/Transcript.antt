@@ -138,11 +138,16 @@ abbrev pub columns_line_of : Bool → Schema → Option Statement → Result Ans
 columns_line_of true s (Some st) (Ok a) = columns_line s st
 columns_line_of _ s st _ = []
 
+-- The lines of the account, where accounts are asked for.
+abbrev pub account_lines_of : Bool → Schema → Result Answer Refusal → List Entry → List ℕ
+account_lines_of true s r told = account_text s r told
+account_lines_of false s r told = []
+
 -- in this format, with accounts or without
 abbrev pub lines_in : Format → Bool → ℕ → Option Statement → Schema → Result Answer Refusal → List Entry → List Entry → List Fault → List ℕ
 lines_in Words asked n st s r told came went =
     first_line n r s
-    ++ (columns_line_of asked s st r ++ (row_lines r ++ (account_text s r told ++ (name_line_of asked s st r ++ pending_lines s came went))))
+    ++ (columns_line_of asked s st r ++ (row_lines r ++ (account_lines_of asked s r told ++ (name_line_of asked s st r ++ pending_lines s came went))))
 lines_in Json asked n st s r told came went = json_line asked n st s r told came went
 
 -- The lines of the outcome of the n-th statement, those of its account, with the catalogue as it is directly after it, and the name or the

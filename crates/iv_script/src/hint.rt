@@ -11,7 +11,7 @@ use iv_parse::SyntaxFault;
 // told. `*` fits every word, and no word comes before the first of a statement.
 
 /// Statements that the language leaves out, and signs that are written otherwise.
-pub const STATEMENTS: [((&str, &str), &str); 19] = [
+pub static STATEMENTS: [((&str, &str), &str); 19] = [
     (("=", "="), "== is written ="),
     (("", "BEGIN"), "a transaction begins with START TRANSACTION"),
     (("DROP", "TABLE"), "DROP TABLE isn't in this language"),
@@ -34,7 +34,7 @@ pub const STATEMENTS: [((&str, &str), &str); 19] = [
 ];
 
 /// Words of joins.
-pub const JOINS: [((&str, &str), &str); 7] = [
+pub static JOINS: [((&str, &str), &str); 7] = [
     (("*", "JOIN"), "JOIN isn't in this language"),
     (("JOIN", "*"), "JOIN isn't in this language"),
     (("*", "INNER"), "JOIN isn't in this language"),
@@ -45,7 +45,7 @@ pub const JOINS: [((&str, &str), &str); 7] = [
 ];
 
 /// Words of other parts of a query.
-pub const CLAUSES: [((&str, &str), &str); 18] = [
+pub static CLAUSES: [((&str, &str), &str); 18] = [
     (("*", "ORDER"), "ORDER BY isn't in this language"),
     (("ORDER", "BY"), "ORDER BY isn't in this language"),
     (("*", "GROUP"), "GROUP BY isn't in this language"),
@@ -67,7 +67,7 @@ pub const CLAUSES: [((&str, &str), &str); 18] = [
 ];
 
 /// Predicates and functions that the language leaves out.
-pub const CALLS: [((&str, &str), &str); 15] = [
+pub static CALLS: [((&str, &str), &str); 15] = [
     (("*", "LIKE"), "LIKE isn't in this language"),
     (("*", "IN"), "IN isn't in this language"),
     (("*", "BETWEEN"), "BETWEEN isn't in this language"),
@@ -86,7 +86,7 @@ pub const CALLS: [((&str, &str), &str); 15] = [
 ];
 
 /// Other words that the language leaves out.
-pub const WORDS: [((&str, &str), &str); 10] = [
+pub static WORDS: [((&str, &str), &str); 10] = [
     (
         ("*", "AUTO_INCREMENT"),
         "AUTO_INCREMENT isn't in this language",
@@ -106,7 +106,7 @@ pub const WORDS: [((&str, &str), &str); 10] = [
 ];
 
 /// The types that the language leaves out.
-pub const NO_TYPES: [((&str, &str), &str); 22] = [
+pub static NO_TYPES: [((&str, &str), &str); 22] = [
     (
         ("*", "BIGINT"),
         "BIGINT isn't in this language; an INTEGER has 64 bits",
@@ -198,7 +198,7 @@ pub const NO_TYPES: [((&str, &str), &str); 22] = [
 ];
 
 /// What no token begins with, and what is known of it.
-pub const NO_TOKENS: [(&str, &str); 10] = [
+pub static NO_TOKENS: [(&str, &str); 10] = [
     ("'", "a text without its closing quote"),
     (
         "\"",

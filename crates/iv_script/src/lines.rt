@@ -1,11 +1,10 @@
 //! The lines of a statement.
 ghost use Rattle.std.specs.Prelude.{◌++◌, Some};
 ghost use Rattle.std.specs.Option.{option_copied};
-ghost use Rattle.iv_print.specs.AccountLines.{account_text};
 ghost use Rattle.iv_print.specs.Lines.{first_line, row_lines};
 ghost use Rattle.iv_print.specs.PendingLines.{pending_lines};
 ghost use Rattle.iv_print.specs.Writing.{Writes};
-ghost use Rattle.iv_script.specs.Transcript.{columns_line_of, lines_in, name_line_of, outcome_lines};
+ghost use Rattle.iv_script.specs.Transcript.{account_lines_of, columns_line_of, lines_in, name_line_of, outcome_lines};
 
 use crate::json_line::write_json_line;
 use crate::telling::Telling;
@@ -88,6 +87,24 @@ fn write_columns<W: Sink>(
     }
 }
 
+// The lines of the account, where accounts are asked for.
+fn write_account_of<W: Sink>(
+    writer: &mut W,
+    telling: Telling,
+    catalogue: &Catalogue,
+    outcome: &Outcome,
+    account: &[Entry],
+) -> Result<(), DeviceFault>
+    ensures { Writes (W.state writer.old) (W.state writer.new) result
+        (account_lines_of telling.style.explain catalogue.now outcome.now account.now) }
+{
+    if telling.style.explain {
+        write_account(writer, catalogue, outcome, account)
+    } else {
+        write_all(writer, b"")
+    }
+}
+
 // The lines in words.
 #[tactic(auto, using(iv_print::proofs::WriteLemmas::writes_then))]
 fn write_words<W: Sink>(
@@ -103,14 +120,14 @@ fn write_words<W: Sink>(
         (first_line number outcome.now catalogue.now
         ++ (columns_line_of telling.style.explain catalogue.now (option_copied statement.entry) outcome.now
         ++ (row_lines outcome.now
-        ++ (account_text catalogue.now outcome.now told.entry.account.now
+        ++ (account_lines_of telling.style.explain catalogue.now outcome.now told.entry.account.now
         ++ (name_line_of telling.style.explain catalogue.now (option_copied statement.entry) outcome.now
         ++ pending_lines catalogue.now told.entry.came.now told.entry.went.now))))) }
 {
     write_first_line(writer, number, outcome, catalogue)?;
     write_columns(writer, telling, statement, outcome, catalogue)?;
     write_row_lines(writer, outcome)?;
-    write_account(writer, catalogue, outcome, told.account)?;
+    write_account_of(writer, telling, catalogue, outcome, told.account)?;
     write_name_of(writer, telling, catalogue, statement, outcome)?;
     write_pending_lines(writer, catalogue, told.came, told.went)
 }

@@ -9,3 +9,4 @@ pub mod Fitting
 pub mod Defined
 pub mod ByName
 pub mod Told
+pub mod QueriesTold

@@ -4,7 +4,7 @@ ghost use Rattle.iv_catalogue.specs.Refusals.{is_memory, refusal_answer};
 ghost use Rattle.iv_machine.specs.Machine.{change_outcome, commit_outcome, is_open, no_work, occasion_of, query_outcome, rollback_outcome, schema_outcome};
 ghost use Rattle.iv_machine.specs.Machine.{transaction_cause, transaction_occasion, transaction_outcome};
 ghost use Rattle.iv_laws_fitting.specs.PlanShapes.{data_suits, plain_shape};
-ghost use Rattle.iv_account.specs.Sessions.{change_told, commit_told};
+ghost use Rattle.iv_account.specs.Sessions.{change_told, commit_told, query_told};
 ghost use Rattle.iv_account.specs.Telling.{MayTell, and_told};
 ghost use Rattle.iv_catalogue.specs.declared.plan.Plan.TheVariants as kind;
 ghost use Rattle.iv_laws_rows.specs.Changing.{UnlessMemory};
@@ -108,12 +108,14 @@ impl<K: Keeper + Drop> SessionState<K> {
     }
 
     // A query that is handed over.
-    fn query_whole(&mut self, plan: QueryPlan) -> Outcome
+    fn query_whole(&mut self, plan: QueryPlan, account: &mut Account) -> Outcome
         ensures performs { Performs self.old.state
             (query_outcome self.old.state plan) result self.new }
         ensures still { self.new.looked_up ≡ self.old.looked_up }
+        ensures told { UnlessMemory result (account.new
+            ≡ and_told account.old (query_told self.old.state plan)) }
     {
-        let answer = self.query(&plan);
+        let answer = self.query(&plan, account);
         drop(plan);
         answer
     }
@@ -145,7 +147,7 @@ impl<K: Keeper + Drop> SessionState<K> {
         match plan {
             Plan::Schema(definition) => self.define(definition),
             Plan::Change(statement) => self.change_whole::<D>(statement, account),
-            Plan::Query(query) => self.query_whole(query),
+            Plan::Query(query) => self.query_whole(query, account),
             Plan::Transaction(control) => self.transact_whole(control, account),
         }
     }

@@ -120,6 +120,7 @@ fn laws_of_accounts_are_called(rt: HostRuntime) {
     iv_laws_answers::accounts_lead_on();
     iv_laws_answers::all_that_begins_ends();
     iv_laws_answers::accounts_tell_violations();
+    iv_laws_answers::failures_are_found();
 }
 
 #[test]

@@ -14,6 +14,18 @@ const SKIPPED: &str =
 const CONFLICT: &str =
     "CREATE TABLE p (k INT UNIQUE, l INT UNIQUE); CREATE TABLE c (x INT CONSTRAINT f REFERENCES p (k) ON UPDATE SET NULL CONSTRAINT g REFERENCES p (l) ON UPDATE CASCADE); INSERT INTO p VALUES (5, 5); INSERT INTO c VALUES (5); UPDATE p SET k = 6, l = 7;";
 
+const FAILED_UPDATE: &str =
+    "CREATE TABLE t (a INT); INSERT INTO t VALUES (1), (9223372036854775807); UPDATE t SET a = a + 1;";
+
+const FAILED_QUERY: &str =
+    "CREATE TABLE t (a INT); INSERT INTO t VALUES (1), (9223372036854775807); SELECT a, a * 2 FROM t;";
+
+const FAILED_SET: &str =
+    "CREATE TABLE t (a VARCHAR(3)); CREATE TRIGGER b BEFORE INSERT ON t REFERENCING NEW AS n FOR EACH ROW SET n.a = 'four'; INSERT INTO t VALUES ('one');";
+
+const FAILED_WHEN: &str =
+    "CREATE TABLE t (a INT); CREATE TRIGGER r AFTER INSERT ON t REFERENCING NEW AS n FOR EACH ROW WHEN (n.a + 1 > 0) DELETE FROM t; INSERT INTO t VALUES (9223372036854775807);";
+
 const DEFERRED: &str =
     "CREATE TABLE t (a INT, CONSTRAINT pos CHECK (a > 0) INITIALLY DEFERRED); INSERT INTO t VALUES (0), (1), (-1);";
 
@@ -64,6 +76,36 @@ fn two_foreign_keys_that_disagree_are_told(rt: HostRuntime) {
         &CALLS,
         "changed 1; disagreed 3 2 with 2 about 0, 2; ",
     )
+}
+
+#[test]
+fn what_failed_in_an_update_is_told(rt: HostRuntime) {
+    static CALLS: [Call; 3] = [Call::Explain(true), Call::Execute, Call::Account];
+    shows::<PlainStore>(&rt, rt.alloc(), FAILED_UPDATE, &CALLS, "failed; ")
+}
+
+#[test]
+fn what_failed_in_a_query_is_told(rt: HostRuntime) {
+    static CALLS: [Call; 3] = [Call::Explain(true), Call::Execute, Call::Account];
+    shows::<PlainStore>(&rt, rt.alloc(), FAILED_QUERY, &CALLS, "failed; ")
+}
+
+#[test]
+fn what_failed_in_a_set_is_told(rt: HostRuntime) {
+    static CALLS: [Call; 3] = [Call::Explain(true), Call::Execute, Call::Account];
+    shows::<PlainStore>(
+        &rt,
+        rt.alloc(),
+        FAILED_SET,
+        &CALLS,
+        "ran 0 false true 0; failed; ",
+    )
+}
+
+#[test]
+fn what_failed_in_a_condition_is_told(rt: HostRuntime) {
+    static CALLS: [Call; 3] = [Call::Explain(true), Call::Execute, Call::Account];
+    shows::<PlainStore>(&rt, rt.alloc(), FAILED_WHEN, &CALLS, "changed 1; failed; ")
 }
 
 #[test]

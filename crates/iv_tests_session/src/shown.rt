@@ -172,6 +172,7 @@ fn show_entry(rt: &impl Abort, entry: &Entry, shown: &mut String) {
             show_disagreement(rt, how, shown);
             show_rows(rt, entry, shown)
         }
+        Entry::Failed(_) => show(rt, "failed", shown),
     }
 }
 

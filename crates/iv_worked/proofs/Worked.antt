@@ -15,6 +15,7 @@ use Rattle.iv_worked.specs.WorkedOccasions.{WorkedOccasions}
 use Rattle.iv_worked.specs.WorkedNulls.{WorkedNulls}
 use Rattle.iv_worked.specs.WorkedColumns.{WorkedColumns}
 use Rattle.iv_worked.specs.WorkedAccounts.{WorkedAccounts}
+use Rattle.iv_worked.specs.WorkedFailures.{WorkedFailures}
 
 pub constraints : WorkedConstraints
 constraints = record {
@@ -252,4 +253,31 @@ accounts = record {
   one_constraint_is_set = refl;
   set_constraints_of_one_not_deferrable = refl;
   depth_of_one = refl;
+}
+
+pub failures : WorkedFailures
+unfolding values_on_literals
+failures = record {
+  second_tuple = refl;
+  listed_column = refl;
+  first_value = refl;
+  left_side = refl;
+  whole_after_parts = refl;
+  second_row_of_an_update = refl;
+  row_of_a_query = refl;
+  item_of_a_query = refl;
+  condition_before_values = refl;
+  value_where_true = refl;
+  condition_of_a_deletion = refl;
+  condition_of_a_subquery = refl;
+  set_of_a_trigger = refl;
+  second_set = refl;
+  condition_of_a_before_trigger = refl;
+  condition_of_an_after_trigger = refl;
+  statement_of_a_body = refl;
+  row_of_a_transition_table = refl;
+  text_of_values = refl;
+  text_of_an_update = refl;
+  text_of_a_set = refl;
+  accepted = refl;
 }

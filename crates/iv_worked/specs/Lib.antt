@@ -8,6 +8,7 @@ pub mod WorkedStatements
 pub mod WorkedKeys
 pub mod WorkedTransactions
 pub mod WorkedEffects
+pub mod WorkedFailures
 pub mod WorkedBeforeTriggers
 pub mod WorkedTransitions
 pub mod WorkedLimits

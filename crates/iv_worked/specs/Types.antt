@@ -62,6 +62,15 @@ pub use Rattle.iv_machine.specs.declared.answer.Answer.TheVariants as answer
 pub use Rattle.iv_machine.specs.declared.database.Which.TheVariants as which
 pub use Rattle.iv_account.specs.declared.entry.Entry.{Entry}
 pub use Rattle.iv_account.specs.declared.entry.Entry.TheVariants as entry
+pub use Rattle.iv_account.specs.declared.failure.FailedEvaluation.{FailedEvaluation}
+pub use Rattle.iv_account.specs.declared.failure.EvaluatedFor.{EvaluatedFor}
+pub use Rattle.iv_account.specs.declared.failure.EvaluatedFor.TheVariants as part
+pub use Rattle.iv_account.specs.declared.failure.Operator.{Operator}
+pub use Rattle.iv_account.specs.declared.failure.Operator.TheVariants as operator
+pub use Rattle.iv_account.specs.declared.failure.RowAtHand.{RowAtHand}
+pub use Rattle.iv_account.specs.declared.failure.RowAtHand.TheVariants as hand
+pub use Rattle.iv_account.specs.declared.failure.ValueFailure.{ValueFailure}
+pub use Rattle.iv_account.specs.declared.failure.ValueFailure.TheVariants as failure
 pub use Rattle.iv_account.specs.declared.entry.Disagreement.{Disagreement}
 pub use Rattle.iv_account.specs.declared.entry.RowAction.{RowAction}
 pub use Rattle.iv_account.specs.declared.entry.SkippedView.{SkippedView}

@@ -17,6 +17,8 @@ use Rattle.iv_worked.specs.Types.event
 use Rattle.iv_worked.specs.Types.granularity.{Row, Statement}
 use Rattle.iv_worked.specs.Types.rule
 use Rattle.iv_worked.specs.Types.entry.{Changed, Acted, Ran, Skipped, Began, Ended, Faulted, Disagreed}
+use Rattle.iv_worked.specs.Types.part
+use Rattle.iv_worked.specs.WorkedFailures.{no_variables, out_of_range}
 use Rattle.iv_worked.specs.WorkedPlans.{number, numbers, null, column, old, new, where_column, integer_column, not_deferrable, initially_deferred, foreign_key_rule, references_rule, create_table, setting, insert, insert_row, insert_value, update, update_all, delete, delete_all, create_trigger, create_update_of, inserts, sets, signals, set_all, set_these, set_one, start, commit}
 use Rattle.iv_worked.specs.WorkedAnswers.{int, fault, with_change_count, told_from, told, told_within}
 use Rattle.iv_machine.specs.Machine.{empty_state}
@@ -219,12 +221,12 @@ pub record WorkedAccounts : Type 0 where
       ∷ insert 0 (numbers (4 ∷ []) ∷ numbers (6 ∷ []) ∷ []) ∷ delete_all 0 ∷ [])
       ≡ Changed (deleted 0 1 (4 ∷ []) ∷ deleted 0 2 (6 ∷ []) ∷ []) ∷ Skipped 0 (without_old (4 ∷ []) False) ∷ Ran 0 (saw_old (6 ∷ [])) ∷ []
   -- CREATE TABLE t (a INT); CREATE TRIGGER b BEFORE INSERT ON t WHEN (9223372036854775807 + 1 > 5) SIGNAL 'stop'; INSERT INTO t
-  -- VALUES (4); a condition that is at fault is neither
+  -- VALUES (4); a condition that is at fault is neither, and what failed in it is told
   pub condition_at_fault : told (
       create_table (integer_column ∷ []) []
       ∷ create_trigger 0 0 Before event.Insert Statement (Compare Greater (plus (number 9223372036854775807) (number 1)) (number 5)) (signals ∷ [])
       ∷ insert_value 0 (number 4) ∷ [])
-      ≡ []
+      ≡ out_of_range no_variables (part.When 0) ∷ []
   -- CREATE TABLE t (a INT); CREATE TRIGGER b BEFORE INSERT ON t REFERENCING NEW AS n FOR EACH ROW SET n.a
   -- = 0; INSERT INTO t VALUES (4), (6); of a budget of two the statement takes one, so that the wave isn't
   -- entered, and its triggers don't run
@@ -315,11 +317,11 @@ pub record WorkedAccounts : Type 0 where
       (insert_value 0 (number 4) ∷ [])
       ≡ []
   -- CREATE TABLE t (a INT); CREATE TRIGGER g BEFORE INSERT ON t SIGNAL 'stop'; INSERT INTO t VALUES
-  -- (9223372036854775807 + 1); the value is refused before the trigger runs
+  -- (9223372036854775807 + 1); the value is refused before the trigger runs, and is told
   pub value_before_a_statement_trigger : told (
       create_table (integer_column ∷ []) [] ∷ create_trigger 0 0 Before event.Insert Statement Always (signals ∷ [])
       ∷ insert_value 0 (plus (number 9223372036854775807) (number 1)) ∷ [])
-      ≡ []
+      ≡ out_of_range no_variables (part.Column 0 0) ∷ []
   -- ---- UPDATE OF
   -- CREATE TABLE t (a INT, b INT); CREATE TRIGGER r AFTER UPDATE OF a ON t SIGNAL 'stop'; UPDATE t SET a = 1;
   pub update_of_fires : told (

@@ -45,8 +45,9 @@ class Action:
 class Violation:
     """A constraint and a row that a refusal is about, and why.
 
-    `why` is one of `condition`, `null`, `same key`, `null in key`, `missing`, `some nulls`, `restrict` and `conflict`. `column` is
-    that of NOT NULL; `other_row` and `other_values` are the row with the same key; `refers_to` and `key` are the table and the key
+    `why` is one of `condition`, `null`, `same key`, `null in key`, `missing`, `some nulls`, `restrict` and `conflict`. `rule` is what a
+    constraint with a generated name asks, as `PRIMARY KEY (ID)`. `condition` is that of a CHECK, as `PRICE > 0`, and `with_values` has
+    the values of the row in it, as `-1 > 0`. `column` is that of NOT NULL; `other_row` and `other_values` are the row with the same key; `refers_to` and `key` are the table and the key
     that a foreign key refers to. Of a `conflict` the foreign key sets `column` to `value`, and `other`, an earlier one, to `other_value`.
     """
 
@@ -63,6 +64,14 @@ class Violation:
     other: Optional[str] = None
     other_value: Value = None
     value: Value = None
+    rule: Optional[str] = None
+    condition: Optional[str] = None
+    with_values: Optional[str] = None
+
+    @property
+    def described(self) -> str:
+        """The constraint by its name, with its rule where the name was generated."""
+        return self.constraint if self.rule is None else f"{self.constraint} ({self.rule})"
 
     @property
     def reason(self) -> str:
@@ -74,7 +83,9 @@ class Violation:
             return f"refers to {self.refers_to} {write_values(self.key)}, {BY_REFERENCE.get(self.why) or self._conflict()}"
         if self.other_values is not None:
             return f"has the key of row {self.other_row} {write_values(self.other_values)}"
-        return {"condition": "makes its condition false", "null": f"has NULL in {self.column}"}.get(self.why) or BY_NULLS[self.why]
+        if self.why == "condition":
+            return f"makes {self.condition} false ({self.with_values})"
+        return f"has NULL in {self.column}" if self.why == "null" else BY_NULLS[self.why]
 
     def _conflict(self) -> str:
         if self.other is None:
@@ -83,7 +94,7 @@ class Violation:
         return f"and {self.other} sets {self.column} to {set_to[0]}, where {self.constraint} sets it to {set_to[1]}"
 
     def __str__(self) -> str:
-        return f"{self.constraint}: {self.reason}"
+        return f"{self.described}: {self.reason}"
 
 
 @dataclass(frozen=True)
@@ -185,7 +196,7 @@ class Account:
     @property
     def reason(self) -> Optional[Reason]:
         """Why the statement is refused, where its text and the catalogue tell it."""
-        return next((event for event in self.events if isinstance(event, Reason)), None)
+        return next((event for event in self.walk() if isinstance(event, Reason)), None)
 
     def walk(self) -> Iterator[Event]:
         """All events in their order, also those in triggers."""
@@ -237,7 +248,8 @@ CHANGE = re.compile(rf"(insert|delete) (\w+) row (\d+) {ROW}\n")
 UPDATE = re.compile(rf"update (\w+) row (\d+) {ROW} to {ROW}\n")
 TRIGGER = re.compile(rf"trigger (\w+)(?: OLD {ROW})?(?: NEW {ROW})?( skipped: WHEN is (false|unknown))?\n")
 ACTION = re.compile(r"(\w+) (CASCADE|SET NULL|SET DEFAULT) on (\w+) row (\d+)\n")
-VIOLATION = re.compile(rf"(\w+): (\w+) row (\d+) {ROW} ")
+RULE = r"(?:NOT NULL|CHECK|UNIQUE|PRIMARY KEY|FOREIGN KEY)[\w ,()]*"
+VIOLATION = re.compile(rf"(\w+)(?: \(({RULE})\))?: (\w+) row (\d+) {ROW} ")
 NAME = re.compile(r"(table|column|row variable|trigger|constraint|REFERENCING name) (\w+(?:\.\w+)?) (isn't there|is there already|comes twice)\n")
 STATEMENT = re.compile(r"statement (\d+)( changes nothing)?\n")
 VALUE = r"NULL|-?\d+|'(?:[^']|'')*'"
@@ -255,11 +267,15 @@ REASONS = [
     r"statement \d+ (?:is|sets) [^\n]*",
     r"(?:there would be \d+|it would be trigger \d+) [^\n]*",
     r"savepoint \w+ isn't there",
+    rf"(?:item \d+|\w+)(?: (?:of|OLD|NEW) {WRITTEN})?(?:: -?\d+ [-+*] -?\d+ is out of range| is VARCHAR\(\d+\), and the text has \d+ characters)",
+    r"depth \d+, and \d+ is the most[^\n]*",
+    r"counted so far \d+, and this or the next row changes are too many[^\n]*",
+    r"a transaction has at most \d+ row changes[^\n]*",
     r"no text is this statement",
 ]
 REASON = re.compile(rf"({'|'.join(REASONS)})\n")
 MATTERS = [
-    ("condition", re.compile(r"makes its condition false\n")),
+    ("condition", re.compile(rf"makes (?P<condition>{WRITTEN}) false \((?P<with_values>{WRITTEN})\)\n")),
     ("null", re.compile(r"has NULL in (?P<column>\w+)\n")),
     ("same key", re.compile(rf"has the key of row (?P<other_row>\d+) {ROW}\n")),
     ("null in key", re.compile(r"has a null in its key\n")),
@@ -375,8 +391,8 @@ def violation_of(head: "re.Match[str]", why: str, found: "re.Match[str]") -> Vio
     values = parse_values(found[2]) if why in ("same key", "missing", "restrict", "conflict") else None
     other_value, value = (parse_values(told[name])[0] if name in told else None for name in ("other_value", "value"))
     return Violation(
-        constraint=head[1], table=head[2], row=int(head[3]), values=parse_values(head[4]), why=why, column=told.get("column"),
+        constraint=head[1], rule=head[2], table=head[3], row=int(head[4]), values=parse_values(head[5]), why=why, column=told.get("column"),
         other_row=int(told["other_row"]) if "other_row" in told else None, other_values=values if why == "same key" else None,
         refers_to=told.get("refers_to"), key=values if why != "same key" else None,
-        other=told.get("other"), other_value=other_value, value=value,
+        other=told.get("other"), other_value=other_value, value=value, condition=told.get("condition"), with_values=told.get("with_values"),
     )

@@ -90,7 +90,7 @@ class Error(Exception):
 
     @property
     def reason(self) -> str | None:
-        """Why the statement was refused, for causes 3, 7, 8, 9 and 21."""
+        """Why the statement was refused, for causes 3, 7 to 11, 16 to 18 and 21."""
         told = self.account.reason if self.account is not None else None
         return told.text if told is not None else None
 
@@ -202,7 +202,7 @@ def reason_of(error: Error) -> str:
     if refusal is None:
         return f"{name}: {f'row {error.row}: ' if error.row is not None else ''}{sentence}"
     inside = f", in trigger {refusal.inside}" if refusal.inside is not None else ""
-    of = refusal.constraint or refusal.trigger
+    of = error.violations[0].described if error.violations else refusal.constraint or refusal.trigger
     return f"{name}{f' of {of}' if of is not None else ''}: {matter_of(error, refusal, sentence)}{inside}"
 
 
@@ -216,6 +216,6 @@ def matter_of(error: Error, refusal: Refusal, sentence: str) -> str:
         return error.violations[0].reason + others + ("; the transaction is rolled back" if refusal.cause == 19 else "")
     account = error.account
     told = (account.name or account.reason) if account is not None else None
-    if told is not None:
+    if told is not None and refusal.cause not in (17, 18):
         return str(told)
     return f"row {refusal.row}: {sentence}" if refusal.row is not None else sentence

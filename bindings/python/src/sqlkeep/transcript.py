@@ -6,7 +6,7 @@ import re
 from dataclasses import dataclass, replace
 from typing import List, Optional, Tuple
 
-from .account import Account, Reader, Violation
+from .account import RULE, Account, Reader, Violation
 from .values import Value, parse_values, write_value
 
 __all__ = ["Answer", "Fault", "Refusal", "Settled", "Transcript", "parse_refusal", "parse_transcript"]
@@ -36,14 +36,17 @@ class Refusal:
 
 @dataclass(frozen=True)
 class Settled:
-    """A violation of a deferred constraint that isn't pending any more: the constraint, its table, and the row's number."""
+    """A violation of a deferred constraint that isn't pending any more: the constraint, its table, and the row's number. `rule` is what
+    a constraint with a generated name asks."""
 
     constraint: str
     table: str
     row: int
+    rule: Optional[str] = None
 
     def __str__(self) -> str:
-        return f"{self.constraint}: {self.table} row {self.row}"
+        rule = "" if self.rule is None else f" ({self.rule})"
+        return f"{self.constraint}{rule}: {self.table} row {self.row}"
 
 
 @dataclass(frozen=True)
@@ -119,7 +122,7 @@ ROW = re.compile(rf"\| ({VALUE}(?:, {VALUE})*)\n")
 COLUMN = r"(?:[^,'\n]|'[^']*')+"
 COLUMNS = re.compile(rf"  columns ({COLUMN}(?:, {COLUMN})*)\n")
 NOW, NO_LONGER = "  now pending ", "  no longer pending "
-SETTLED = re.compile(r"(\w+): (\w+) row (\d+)\n")
+SETTLED = re.compile(rf"(\w+)(?: \(({RULE})\))?: (\w+) row (\d+)\n")
 REFUSED = re.compile(r"(\d+) refused (\d+) (\w+)(?: (?!row \d|in \w)(\w+))?(?: row (\d+))?(?: ('(?:[^']|'')*'))?(?: in (\w+))?\n")
 FAULT = re.compile(r"(\d+) fault (\d+)\n(?:  line (\d+), column (\d+)(?:: ([^\n]*))?\n((?:    [^\n]*\n     *\^\n)?))?")
 END = re.compile(r"end rolled back\n")
@@ -169,7 +172,7 @@ def answer_at(reader: Reader) -> Optional[Answer]:
     account = reader.account()
     came = tuple(iter(lambda: reader.violation(NOW), None))
     settled = iter(lambda: reader.take(SETTLED, NO_LONGER), None)
-    return replace(outcome, account=account, came=came, went=tuple(Settled(found[1], found[2], int(found[3])) for found in settled))
+    return replace(outcome, account=account, came=came, went=tuple(Settled(found[1], found[3], int(found[4]), found[2]) for found in settled))
 
 
 def parse_refusal(lines: str) -> Tuple[Refusal, Account]:

@@ -1,4 +1,4 @@
-use Rattle.std.proofs.Common.{ℕ, List, refl, ap, sym, subst, ◌∙◌, arith}
+use Rattle.std.proofs.Common.{◌≡◌, ℕ, List, refl, ap, sym, subst, ◌∙◌, arith}
 use Rattle.iv_expr.specs.declared.wave.TableColumn.{TableColumn}
 use Rattle.iv_machine.specs.Levels.{Firing, firings_run, nested_level}
 use Rattle.iv_exec_transitions.specs.ByTable.{all_firings}
@@ -14,6 +14,11 @@ use Rattle.iv_exec_level.proofs.Levels.{finished_is, finished_quietly, level_don
 use Rattle.iv_exec_level.proofs.ToldLevels.{finished_told_is, nested_told_as, unless_as, waves_done_told, waves_refused_told}
 use Rattle.iv_exec_level.proofs.ToldTurns.{rows_told, rows_told_refused, statements_told, statements_told_refused, triggers_told, triggers_told_refused}
 use Rattle.iv_exec_level.proofs.Turns.{rows_refused, rows_so_far, statements_refused, statements_so_far, triggers_refused, triggers_so_far}
+use Rattle.iv_exec_context.proofs.Answers.{anyway}
+use Rattle.iv_account.specs.Accounts.{failure_told, fired_told, firing_told}
+use Rattle.iv_account.specs.Failures.{when_failure}
+use Rattle.iv_expr.specs.declared.row.StoredRow.{StoredRow}
+use Rattle.iv_exec_level.proofs.ToldConditions.{body_told_after, nothing_after, when_failed}
 use Rattle.iv_exec_level.proofs.level.+level.Goals as goal
 
 pub finish-returns-in-Some-clause-answer : goal.finish-returns-in-Some-clause-answer
@@ -267,3 +272,35 @@ run_waves-returns-in_err-finish-clause-told g t c =
     (waves_refused_told run tell c.args.context.now c.args.statement.now old.base (g.K.ReferencingRows.view c.settle_waves.new.store).base
     c.args.budget.now c.settle_waves.new.budget c.args.changes.items c.in_ok-told.told c.args.account.now c.settle_waves.new.account c.finish.new.account
     c.in_ok-told.ensures.answer c.in_ok-told.ensures.told (is_memory_cause c.in_err-finish.field-0.0.cause) c.in_err-finish.ensures.told)
+
+pub run_where_true-returns-in-Err-clause-told : goal.run_where_true-returns-in-Err-clause-told
+run_where_true-returns-in-Err-clause-told g t c =
+    let at = progress (g.K.ReferencingRows.view c.args.store.now).base c.args.budget.now in
+    let run = nested_level c.args.deeper c.args.context.now in
+    let tell = nested_told c.args.deeper c.args.context.now in
+    let x : Firing = record { trigger = c.args.trigger.now; frame = c.args.frame.now } in
+    anyway (is_memory_cause c.of.result.cause) (c.tell_when.new.account ≡ and_told c.args.account.now (firing_told run tell x at))
+    (c.in_ok-tell_when-in-Err.ensures.told
+    ∙ ap (λ (rows : List StoredRow). and_told c.args.account.now (failure_told c.in-Err.cause (when_failure rows c.args.trigger.now c.args.frame.now)))
+    (g.met.K.ChangeableRows.rows_are c.args.store.now)
+    ∙ ap (and_told c.args.account.now) (sym (c.in-Err.ensures.told (when_failed x at) (fired_told run tell x at))))
+
+pub run_where_true-returns-then-is_true-clause-told : goal.run_where_true-returns-then-is_true-clause-told
+run_where_true-returns-then-is_true-clause-told g t c =
+    let at = progress (g.K.ReferencingRows.view c.args.store.now).base c.args.budget.now in
+    let run = nested_level c.args.deeper c.args.context.now in
+    let tell = nested_told c.args.deeper c.args.context.now in
+    let x : Firing = record { trigger = c.args.trigger.now; frame = c.args.frame.now } in
+    body_told_after run tell x at c.args.account.now c.ran_or_skipped.new.self c.in-Ok.when
+    (c.in-Ok.ensures.told (when_failed x at) (fired_told run tell x at)) c.in_ok-ran_or_skipped.ensures.told
+    c.run_body.result c.run_body.new.account c.if-is_true.ensures c.run_body.ensures.told
+
+pub run_where_true-returns-else-is_true-clause-told : goal.run_where_true-returns-else-is_true-clause-told
+run_where_true-returns-else-is_true-clause-told g t c =
+    let at = progress (g.K.ReferencingRows.view c.args.store.now).base c.args.budget.now in
+    let run = nested_level c.args.deeper c.args.context.now in
+    let tell = nested_told c.args.deeper c.args.context.now in
+    let x : Firing = record { trigger = c.args.trigger.now; frame = c.args.frame.now } in
+    nothing_after run tell x at c.args.account.now c.ran_or_skipped.new.self c.in-Ok.when
+    (c.in-Ok.ensures.told (when_failed x at) (fired_told run tell x at)) c.in_ok-ran_or_skipped.ensures.told
+    c.if-is_true.ensures

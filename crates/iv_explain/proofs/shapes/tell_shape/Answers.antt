@@ -3,7 +3,7 @@ use Rattle.iv_print.specs.Writing.{Writes}
 use Rattle.iv_resolve_reasons.specs.Seen.{shape_seen}
 use Rattle.iv_resolve_reasons.specs.declared.shape.ShapeFault.{ShapeFault}
 use Rattle.iv_explain.specs.Reasons.{shape_text}
-use Rattle.iv_explain.specs.Spelled.{spelled}
+use Rattle.iv_print.specs.Spelled.{spelled}
 use Rattle.iv_explain.proofs.shapes.tell_shape.Goals as goal
 
 pub returns-in-QueryCount : goal.returns-in-QueryCount

@@ -1,7 +1,4 @@
-use Rattle.std.proofs.Common.{List, codes, slice_get, subst, Ok}
-use Rattle.iv_catalogue.specs.declared.constraint.Constraint.{Constraint}
-use Rattle.iv_print.specs.Lines.{name_of}
-use Rattle.iv_print.specs.Writing.{Writes}
+use Rattle.std.proofs.Common.{codes}
 use Rattle.iv_print.proofs.WriteLemmas.{writes_then}
 use Rattle.iv_print.proofs.pending.write_violation.Goals as goal
 
@@ -9,13 +6,12 @@ pub returns : goal.returns
 returns g c =
     let s0 = g.W.Sink.state c.args.sink.now in
     let s1 = g.W.Sink.state c.write_all.new.sink in
-    let s2 = g.W.Sink.state c.write_name.new.sink in
+    let s2 = g.W.Sink.state c.write_described.new.sink in
     let s3 = g.W.Sink.state c.write_all-2.new.sink in
     let s4 = g.W.Sink.state c.write_rows.new.sink in
     let s5 = g.W.Sink.state c.write_all-3.new.sink in
     let r = c.write_all-3.result in
-    let name = subst (λ (l : List Constraint). Writes s1 s2 (Ok tt) (name_of (slice_get l c.args.constraint))) c.constraints.ensures.constraints c.in_ok-write_name.ensures in
     writes_then s0 s1 s5 r (codes "  now pending ") _ c.in_ok-write_all.ensures
-    (writes_then s1 s2 s5 r (name_of (slice_get c.args.catalogue.now.constraints c.args.constraint)) _ name
+    (writes_then s1 s2 s5 r _ _ c.in_ok-write_described.ensures
     (writes_then s2 s3 s5 r (codes ": ") _ c.in_ok-write_all-2.ensures
     (writes_then s3 s4 s5 r _ _ c.in_ok-write_rows.ensures c.write_all-3.ensures)))

@@ -1,0 +1,14 @@
+use Rattle.std.proofs.Common.{◌≡◌, ◌-◌, ◌^◌}
+use Rattle.iv_expr.specs.Scopes.{table_rows}
+use Rattle.iv_expr.proofs.Scan.{rows_above}
+use Rattle.iv_account.specs.Disagreements.{first_of}
+use Rattle.iv_account.specs.Failures.{where_failure}
+use Rattle.iv_exec_context.proofs.failures.wheres.where_in_table.Given as goal
+
+abbrev pub invariant-loop-number : goal.invariant-loop-number
+invariant-loop-number g l =
+    let f = where_failure l.scope l.filter in
+    first_of f (rows_above l.after (table_rows l.scope.rows l.table)) ≡ first_of f (table_rows l.scope.rows l.table)
+
+abbrev pub decreases-loop-number : goal.decreases-loop-number
+decreases-loop-number g l = 2 ^ 64 - l.after

@@ -1,0 +1,14 @@
+use Rattle.std.proofs.Common.{◌≤◌, ◌+◌, length}
+use Rattle.iv_print.specs.AccountLines.{entries_text}
+use Rattle.iv_print.proofs.WriteLemmas.{Wrote}
+use Rattle.iv_print.proofs.account.write_entries.Given as goal
+
+abbrev pub invariant-loop-entry : goal.invariant-loop-entry
+invariant-loop-entry g l = record {
+  wrote : Wrote (entries_text l.fn.catalogue l.fn.outcome 0 l.fn.entries) (entries_text l.fn.catalogue l.fn.outcome l.depth l.rest)
+      (g.W.Sink.state l.initial.sink) (g.W.Sink.state l.sink);
+  left : l.depth + length l.rest ≤ length l.fn.entries;
+}
+
+abbrev pub decreases-loop-entry : goal.decreases-loop-entry
+decreases-loop-entry g l = length l.rest

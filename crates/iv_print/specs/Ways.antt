@@ -1,0 +1,130 @@
+-- A statement that is refused for a limit: what was counted, and which statements of triggers' bodies had begun in it.
+use Rattle.std.specs.Prelude.{ℕ, suc, ◌-◌, Bool, true, false, ◌==◌, if◌then◌else◌, List, [], ◌∷◌, ◌++◌, codes, decimal, length, Option, Some, None, Result, Ok, Err}
+use Rattle.iv_catalogue.specs.Catalogues.{Schema, trigger_numbered}
+use Rattle.iv_catalogue.specs.declared.cause.Cause.{Cause}
+use Rattle.iv_catalogue.specs.declared.cause.Cause.TheVariants as cause
+use Rattle.iv_catalogue.specs.declared.cause.Refusal.{Refusal}
+use Rattle.iv_machine.specs.Bounds.{most_changes_in_a_transaction}
+use Rattle.iv_machine.specs.declared.answer.Answer.{Answer}
+use Rattle.iv_account.specs.declared.entry.Entry.{Entry}
+use Rattle.iv_account.specs.declared.entry.Entry.TheVariants.{Changed, Ran, Began, Ended}
+use Rattle.iv_print.specs.Counts.{counted}
+use Rattle.iv_print.specs.Lines.{trigger_name}
+use Rattle.iv_print.specs.declared.way.Begun.{Begun}
+use Rattle.iv_print.specs.declared.way.Latest.{Latest}
+use Rattle.iv_print.specs.declared.way.Limit.{Limit}
+use Rattle.iv_print.specs.declared.way.Limit.TheVariants.{Depth, Changes, Transaction}
+
+-- ---- how deep
+
+-- The data statement that begins is one deeper, up to its end.
+abbrev pub depth_after : ℕ → Entry → ℕ
+depth_after depth (Began place) = suc depth
+depth_after depth Ended = depth - 1
+depth_after depth _ = depth
+
+-- how deep the account ends that is so deep before these entries: so many statements have begun and not ended
+abbrev pub depth_from : ℕ → List Entry → ℕ
+depth_from depth [] = depth
+depth_from depth (entry ∷ entries) = depth_from (depth_after depth entry) entries
+
+-- ---- which statements
+
+-- what is known of a level after an entry at this depth: the trigger that ran last there, and the statement that began last there, with
+-- that trigger
+abbrev pub latest_after : ℕ → ℕ → Latest → Entry → Latest
+latest_after level depth latest (Ran id seen) = if depth == level then record latest { trigger = Some id } else latest
+latest_after level depth latest (Began place) =
+    if depth == level then record latest { begun = Some (record { trigger = latest.trigger; place = place }) } else latest
+latest_after level depth latest _ = latest
+
+abbrev pub latest_from : ℕ → ℕ → Latest → List Entry → Latest
+latest_from level depth latest [] = latest
+latest_from level depth latest (entry ∷ entries) =
+    latest_from level (depth_after depth entry) (latest_after level depth latest entry) entries
+
+abbrev pub nothing_yet : Latest
+nothing_yet = record { trigger = None; begun = None }
+
+-- The statement that began last at this level, from 0. If the account ends deeper, it is the one that hasn't ended.
+abbrev pub begun_at : ℕ → List Entry → Option Begun
+begun_at level entries = (latest_from level 0 nothing_yet entries).begun
+
+-- ---- the way in words
+
+-- the name of a trigger that ran
+abbrev pub name_of_trigger : Schema → Option ℕ → List ℕ
+name_of_trigger s (Some id) = trigger_name (trigger_numbered s id)
+name_of_trigger s None = []
+
+-- a statement of a trigger's body
+abbrev pub begun_text : Schema → Option Begun → List ℕ
+begun_text s (Some b) = name_of_trigger s b.trigger ++ (codes " statement " ++ decimal b.place)
+begun_text s None = []
+
+-- the one at this level, after another
+unfoldable pub next_text : Schema → List Entry → ℕ → List ℕ
+next_text s entries level = codes ", " ++ begun_text s (begun_at level entries)
+
+-- What follows the first three of so many further ones: the fourth if it is the last, and otherwise only the last.
+abbrev pub last_text : Schema → List Entry → ℕ → List ℕ
+last_text s entries more =
+    if more == 2 then [] else (if more == 3 then next_text s entries 3 else codes ", .." ++ next_text s entries more)
+
+abbrev pub third_text : Schema → List Entry → ℕ → List ℕ
+third_text s entries more = if more == 1 then [] else next_text s entries 2 ++ last_text s entries more
+
+-- those after the first
+abbrev pub further_text : Schema → List Entry → ℕ → List ℕ
+further_text s entries more = if more == 0 then [] else next_text s entries 1 ++ third_text s entries more
+
+-- The statements that have begun and not ended, from the outermost to the innermost: so many.
+abbrev pub way_text : Schema → List Entry → ℕ → List ℕ
+way_text s entries depth =
+    if depth == 0 then []
+    else codes ": " ++ (begun_text s (begun_at 0 entries) ++ further_text s entries (depth - 1))
+
+-- ---- what was counted
+
+-- every row change counts, and every statement
+abbrev pub used_after : ℕ → Entry → ℕ
+used_after used (Changed changes) = counted used (length changes)
+used_after used (Began place) = counted used 1
+used_after used _ = used
+
+abbrev pub used_from : ℕ → List Entry → ℕ
+used_from used [] = used
+used_from used (entry ∷ entries) = used_from (used_after used entry) entries
+
+-- ---- the limit
+
+abbrev pub limit_of : Cause → Option Limit
+limit_of (cause.DepthLimit id) = Some Depth
+limit_of cause.TooManyChanges = Some Changes
+limit_of cause.TransactionTooLarge = Some Transaction
+limit_of _ = None
+
+-- The statement that would be so deep is not begun: the script's own is at depth 1.
+abbrev pub depth_words : ℕ → List ℕ
+depth_words depth = (codes "depth " ++ decimal (counted depth 1)) ++ (codes ", and " ++ (decimal depth ++ codes " is the most"))
+
+abbrev pub used_words : List Entry → List ℕ
+used_words entries = codes "counted so far " ++ (decimal (used_from 1 entries) ++ codes ", and this or the next row changes are too many")
+
+abbrev pub transaction_words : List ℕ
+transaction_words = codes "a transaction has at most " ++ (decimal most_changes_in_a_transaction ++ codes " row changes")
+
+-- which limit, and what was counted
+abbrev pub limit_words : List Entry → ℕ → Limit → List ℕ
+limit_words entries depth Depth = depth_words depth
+limit_words entries depth Changes = used_words entries
+limit_words entries depth Transaction = transaction_words
+
+-- with the way that led there
+unfoldable pub limit_text : Schema → List Entry → Limit → List ℕ
+limit_text s entries limit = limit_words entries (depth_from 0 entries) limit ++ way_text s entries (depth_from 0 entries)
+
+-- a line for a statement that is refused for a limit
+abbrev pub limit_line : Schema → List Entry → Result Answer Refusal → List ℕ
+limit_line s entries (Ok a) = []
+limit_line s entries (Err r) = elim (limit_of r.cause) [ Some limit ↦ codes "  " ++ (limit_text s entries limit ++ codes "\n") | None ↦ [] ]

@@ -1,0 +1,100 @@
+//! The last entry of a statement that is refused for a limit, as JSON.
+ghost use Rattle.std.specs.Prelude.{◌≡◌, ◌++◌, [], Some, None};
+ghost use Rattle.iv_print.specs.Json.{json_text};
+ghost use Rattle.iv_print.specs.JsonAccounts.{limit_entry, limit_object, limit_separator};
+ghost use Rattle.iv_print.specs.Ways.{limit_text};
+ghost use Rattle.iv_print.specs.Writing.{Writes};
+
+use crate::device::{DeviceFault, Sink};
+use crate::format::Format;
+use crate::json::write_member;
+use crate::json_account::write_entry_key;
+use crate::way::{Limit, limit_of, tell_limit};
+use crate::write::write_all;
+use iv_account::Entry;
+use iv_catalogue::{Catalogue, Refusal};
+use iv_machine::Answer;
+
+// The words between their quotes.
+#[tactic(auto, using(crate::proofs::WriteLemmas::writes_then), unfolding(crate::specs::Spelled::spelled, crate::specs::Json::json_text))]
+fn write_text<W: Sink>(
+    sink: &mut W,
+    catalogue: &Catalogue,
+    entries: &[Entry],
+    limit: Limit,
+) -> Result<(), DeviceFault>
+    ensures { Writes (W.state sink.old) (W.state sink.new) result
+        (json_text (limit_text catalogue.now entries.now limit)) }
+{
+    write_all(sink, b"\"")?;
+    tell_limit(sink, Format::Json, catalogue, entries, limit)?;
+    write_all(sink, b"\"")
+}
+
+fn write_object<W: Sink>(
+    sink: &mut W,
+    catalogue: &Catalogue,
+    entries: &[Entry],
+    limit: Limit,
+) -> Result<(), DeviceFault>
+    ensures { Writes (W.state sink.old) (W.state sink.new) result
+        (limit_object catalogue.now entries.now limit) }
+{
+    write_entry_key(sink, b"limit")?;
+    write_member(sink, b"text")?;
+    write_text(sink, catalogue, entries, limit)?;
+    write_all(sink, b"}")
+}
+
+fn separator(entries: &[Entry]) -> &'static [u8]
+    ensures { result.now ≡ limit_separator entries.now }
+{
+    match entries {
+        [] => b"",
+        [_, ..] => b",",
+    }
+}
+
+fn write_separated<W: Sink>(
+    sink: &mut W,
+    catalogue: &Catalogue,
+    entries: &[Entry],
+    limit: Limit,
+) -> Result<(), DeviceFault>
+    ensures { Writes (W.state sink.old) (W.state sink.new) result
+        (limit_separator entries.now ++ limit_object catalogue.now entries.now limit) }
+{
+    write_all(sink, separator(entries))?;
+    write_object(sink, catalogue, entries, limit)
+}
+
+fn write_entry_of<W: Sink>(
+    sink: &mut W,
+    catalogue: &Catalogue,
+    entries: &[Entry],
+    limit: Option<Limit>,
+) -> Result<(), DeviceFault>
+    ensures { Writes (W.state sink.old) (W.state sink.new) result
+        (elim limit [ Some l ↦ limit_separator entries.now ++ limit_object catalogue.now entries.now l | None ↦ [] ]) }
+{
+    match limit {
+        Some(limit) => write_separated(sink, catalogue, entries, limit),
+        None => write_all(sink, b""),
+    }
+}
+
+/// The entry of a statement that is refused for a limit.
+pub(crate) fn write_limit_entry<W: Sink>(
+    sink: &mut W,
+    catalogue: &Catalogue,
+    entries: &[Entry],
+    outcome: &Result<Answer, Refusal>,
+) -> Result<(), DeviceFault>
+    ensures { Writes (W.state sink.old) (W.state sink.new) result
+        (limit_entry catalogue.now entries.now outcome.now) }
+{
+    match outcome {
+        Ok(_) => write_all(sink, b""),
+        Err(refusal) => write_entry_of(sink, catalogue, entries, limit_of(&refusal.cause)),
+    }
+}

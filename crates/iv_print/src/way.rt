@@ -1,0 +1,541 @@
+//! A statement that is refused for a limit: what was counted, and which statements of triggers' bodies had begun in it.
+ghost use Rattle.std.specs.Prelude.{◌≡◌, ◌<◌, ◌^◌, ◌-◌, ◌++◌, [], Some, None, codes, decimal};
+ghost use Rattle.iv_print.specs.Counts.{counted};
+ghost use Rattle.iv_print.specs.Spelled.{spelled};
+ghost use Rattle.iv_print.specs.Ways.{begun_at, begun_text, depth_after, depth_from, depth_words, further_text, last_text, latest_after, latest_from, limit_line, limit_of, limit_text, limit_words, name_of_trigger, next_text, third_text, transaction_words, used_after, used_from, used_words, way_text};
+ghost use Rattle.iv_machine.specs.Bounds.{most_changes_in_a_transaction};
+ghost use Rattle.iv_print.specs.Writing.{Writes};
+
+use crate::device::{DeviceFault, Sink};
+use crate::format::Format;
+use crate::spelled::{tell, tell_between};
+use crate::spelled_number::{tell_number_after, tell_number_between};
+use crate::write::write_all;
+use itoa::Buffer;
+use iv_account::Entry;
+use iv_catalogue::{Catalogue, Cause, Refusal, TriggerId};
+use iv_machine::{Answer, MOST_CHANGES_IN_A_TRANSACTION};
+
+/// A data statement of a trigger's body that has begun, by its place there.
+#[derive(Clone, Copy, Debug, PartialEq, Eq)]
+pub struct Begun {
+    pub trigger: Option<TriggerId>,
+    pub place: u32,
+}
+
+/// What is known of a level of an account: the trigger that ran last there, and the statement that began last there.
+#[derive(Clone, Copy, Debug, PartialEq, Eq)]
+pub struct Latest {
+    pub trigger: Option<TriggerId>,
+    pub begun: Option<Begun>,
+}
+
+// ---- how deep, and which statements
+
+/// How deep the entry after this one is.
+pub(crate) fn depth_after(depth: usize, entry: &Entry) -> usize
+    requires { depth < 2 ^ 64 - 1 }
+    ensures { result ≡ depth_after depth entry.now }
+{
+    match entry {
+        Entry::Began(_) => depth + 1,
+        Entry::Ended => depth.saturating_sub(1),
+        _ => depth,
+    }
+}
+
+// How many statements have begun and not ended.
+fn depth_of(entries: &[Entry]) -> usize
+    ensures { result ≡ depth_from 0 entries.now }
+{
+    let mut rest = entries;
+    let mut depth = 0usize;
+    while let Some((entry, others)) = rest.split_first() {
+        depth = depth_after(depth, entry);
+        rest = others;
+    }
+    depth
+}
+
+fn latest_after(level: usize, depth: usize, latest: Latest, entry: &Entry) -> Latest
+    ensures { result ≡ latest_after level depth latest entry.now }
+{
+    if depth != level {
+        return latest;
+    }
+    match entry {
+        Entry::Ran(id, _) => Latest {
+            trigger: Some(*id),
+            begun: latest.begun,
+        },
+        Entry::Began(place) => Latest {
+            trigger: latest.trigger,
+            begun: Some(Begun {
+                trigger: latest.trigger,
+                place: *place,
+            }),
+        },
+        _ => latest,
+    }
+}
+
+// The statement that began last at this level.
+fn begun_at(level: usize, entries: &[Entry]) -> Option<Begun>
+    ensures { result ≡ begun_at level entries.now }
+{
+    let mut rest = entries;
+    let mut depth = 0usize;
+    let mut latest = Latest {
+        trigger: None,
+        begun: None,
+    };
+    while let Some((entry, others)) = rest.split_first() {
+        latest = latest_after(level, depth, latest, entry);
+        depth = depth_after(depth, entry);
+        rest = others;
+    }
+    latest.begun
+}
+
+// ---- the way in words
+
+fn trigger_named(catalogue: &Catalogue, id: Option<TriggerId>) -> &str
+    ensures { result.now ≡ name_of_trigger catalogue.now id }
+{
+    let Some(id) = id else {
+        return "";
+    };
+    match catalogue.trigger(id) {
+        Some(trigger) => trigger.name.as_str(),
+        None => "",
+    }
+}
+
+fn tell_begun<W: Sink>(
+    writer: &mut W,
+    format: Format,
+    catalogue: &Catalogue,
+    begun: Option<Begun>,
+) -> Result<(), DeviceFault>
+    ensures { Writes (W.state writer.old) (W.state writer.new) result
+        (spelled format (begun_text catalogue.now begun)) }
+{
+    match begun {
+        Some(begun) => {
+            let mut buffer = Buffer::new();
+            let name = trigger_named(catalogue, begun.trigger);
+            tell_between(
+                writer,
+                format,
+                name.as_bytes(),
+                b" statement ",
+                buffer.format(begun.place).as_bytes(),
+            )
+        }
+        None => tell(writer, format, b""),
+    }
+}
+
+// The statement at this level.
+fn tell_begun_at<W: Sink>(
+    writer: &mut W,
+    format: Format,
+    catalogue: &Catalogue,
+    entries: &[Entry],
+    level: usize,
+) -> Result<(), DeviceFault>
+    ensures { Writes (W.state writer.old) (W.state writer.new) result
+        (spelled format (begun_text catalogue.now (begun_at level entries.now))) }
+{
+    tell_begun(writer, format, catalogue, begun_at(level, entries))
+}
+
+// The same after these words.
+#[tactic(auto, using(crate::proofs::SpelledLemmas::spelled_then))]
+fn tell_begun_after<W: Sink>(
+    writer: &mut W,
+    format: Format,
+    words: &[u8],
+    catalogue: &Catalogue,
+    entries: &[Entry],
+    level: usize,
+) -> Result<(), DeviceFault>
+    ensures { Writes (W.state writer.old) (W.state writer.new) result
+        (spelled format (words.now ++ begun_text catalogue.now (begun_at level entries.now))) }
+{
+    tell(writer, format, words)?;
+    tell_begun_at(writer, format, catalogue, entries, level)
+}
+
+// The statement at this level, after another.
+#[tactic(auto, unfolding(crate::specs::Ways::next_text))]
+fn tell_next<W: Sink>(
+    writer: &mut W,
+    format: Format,
+    catalogue: &Catalogue,
+    entries: &[Entry],
+    level: usize,
+) -> Result<(), DeviceFault>
+    ensures { Writes (W.state writer.old) (W.state writer.new) result
+        (spelled format (next_text catalogue.now entries.now level)) }
+{
+    tell_begun_after(writer, format, b", ", catalogue, entries, level)
+}
+
+// The same after these words.
+#[tactic(auto, using(crate::proofs::SpelledLemmas::spelled_then))]
+fn tell_next_after<W: Sink>(
+    writer: &mut W,
+    format: Format,
+    words: &[u8],
+    catalogue: &Catalogue,
+    entries: &[Entry],
+    level: usize,
+) -> Result<(), DeviceFault>
+    ensures { Writes (W.state writer.old) (W.state writer.new) result
+        (spelled format (words.now ++ next_text catalogue.now entries.now level)) }
+{
+    tell(writer, format, words)?;
+    tell_next(writer, format, catalogue, entries, level)
+}
+
+// What follows the first three of so many further ones.
+fn tell_last<W: Sink>(
+    writer: &mut W,
+    format: Format,
+    catalogue: &Catalogue,
+    entries: &[Entry],
+    more: usize,
+) -> Result<(), DeviceFault>
+    ensures { Writes (W.state writer.old) (W.state writer.new) result
+        (spelled format (last_text catalogue.now entries.now more)) }
+{
+    if more == 2 {
+        tell(writer, format, b"")
+    } else if more == 3 {
+        tell_next(writer, format, catalogue, entries, 3)
+    } else {
+        tell_next_after(writer, format, b", ..", catalogue, entries, more)
+    }
+}
+
+#[tactic(auto, using(crate::proofs::SpelledLemmas::spelled_then))]
+fn tell_third_and_last<W: Sink>(
+    writer: &mut W,
+    format: Format,
+    catalogue: &Catalogue,
+    entries: &[Entry],
+    more: usize,
+) -> Result<(), DeviceFault>
+    ensures { Writes (W.state writer.old) (W.state writer.new) result
+        (spelled format (next_text catalogue.now entries.now 2 ++ last_text catalogue.now entries.now more)) }
+{
+    tell_next(writer, format, catalogue, entries, 2)?;
+    tell_last(writer, format, catalogue, entries, more)
+}
+
+fn tell_third<W: Sink>(
+    writer: &mut W,
+    format: Format,
+    catalogue: &Catalogue,
+    entries: &[Entry],
+    more: usize,
+) -> Result<(), DeviceFault>
+    ensures { Writes (W.state writer.old) (W.state writer.new) result
+        (spelled format (third_text catalogue.now entries.now more)) }
+{
+    if more == 1 {
+        tell(writer, format, b"")
+    } else {
+        tell_third_and_last(writer, format, catalogue, entries, more)
+    }
+}
+
+#[tactic(auto, using(crate::proofs::SpelledLemmas::spelled_then))]
+fn tell_second_and_third<W: Sink>(
+    writer: &mut W,
+    format: Format,
+    catalogue: &Catalogue,
+    entries: &[Entry],
+    more: usize,
+) -> Result<(), DeviceFault>
+    ensures { Writes (W.state writer.old) (W.state writer.new) result
+        (spelled format (next_text catalogue.now entries.now 1 ++ third_text catalogue.now entries.now more)) }
+{
+    tell_next(writer, format, catalogue, entries, 1)?;
+    tell_third(writer, format, catalogue, entries, more)
+}
+
+// Those after the first.
+fn tell_further<W: Sink>(
+    writer: &mut W,
+    format: Format,
+    catalogue: &Catalogue,
+    entries: &[Entry],
+    more: usize,
+) -> Result<(), DeviceFault>
+    ensures { Writes (W.state writer.old) (W.state writer.new) result
+        (spelled format (further_text catalogue.now entries.now more)) }
+{
+    if more == 0 {
+        tell(writer, format, b"")
+    } else {
+        tell_second_and_third(writer, format, catalogue, entries, more)
+    }
+}
+
+// The first after these words, and so many further ones.
+#[tactic(auto, using(crate::proofs::SpelledLemmas::spelled_then))]
+fn tell_some<W: Sink>(
+    writer: &mut W,
+    format: Format,
+    words: &[u8],
+    catalogue: &Catalogue,
+    entries: &[Entry],
+    more: usize,
+) -> Result<(), DeviceFault>
+    ensures { Writes (W.state writer.old) (W.state writer.new) result
+        (spelled format (words.now
+        ++ (begun_text catalogue.now (begun_at 0 entries.now) ++ further_text catalogue.now entries.now more))) }
+{
+    tell(writer, format, words)?;
+    tell_begun_at(writer, format, catalogue, entries, 0)?;
+    tell_further(writer, format, catalogue, entries, more)
+}
+
+// The statements that have begun and not ended.
+fn tell_way<W: Sink>(
+    writer: &mut W,
+    format: Format,
+    catalogue: &Catalogue,
+    entries: &[Entry],
+    depth: usize,
+) -> Result<(), DeviceFault>
+    ensures { Writes (W.state writer.old) (W.state writer.new) result
+        (spelled format (way_text catalogue.now entries.now depth)) }
+{
+    if depth == 0 {
+        tell(writer, format, b"")
+    } else {
+        tell_some(writer, format, b": ", catalogue, entries, depth - 1)
+    }
+}
+
+// ---- what was counted
+
+fn used_after(used: u64, entry: &Entry) -> u64
+    ensures { result ≡ used_after used entry.now }
+{
+    match entry {
+        Entry::Changed(changes) => used.saturating_add(changes.len() as u64),
+        Entry::Began(_) => used.saturating_add(1),
+        _ => used,
+    }
+}
+
+// How many row changes and statements there were.
+fn used(entries: &[Entry]) -> u64
+    ensures { result ≡ used_from 1 entries.now }
+{
+    let mut rest = entries;
+    let mut used = 1u64;
+    while let Some((entry, others)) = rest.split_first() {
+        used = used_after(used, entry);
+        rest = others;
+    }
+    used
+}
+
+// ---- the limit
+
+/// A limit of depth or of row changes.
+#[derive(Clone, Copy, Debug, PartialEq, Eq)]
+pub enum Limit {
+    Depth,
+    Changes,
+    Transaction,
+}
+
+/// The limit for which a statement is refused.
+pub(crate) fn limit_of(cause: &Cause) -> Option<Limit>
+    ensures { result ≡ limit_of cause.now }
+{
+    match cause {
+        Cause::DepthLimit(_) => Some(Limit::Depth),
+        Cause::TooManyChanges => Some(Limit::Changes),
+        Cause::TransactionTooLarge => Some(Limit::Transaction),
+        _ => None,
+    }
+}
+
+// One deeper.
+fn deeper(depth: usize) -> u128
+    ensures { result ≡ counted depth 1 }
+{
+    depth.saturating_add(1) as u128
+}
+
+// Two numbers between these words.
+#[tactic(auto, using(crate::proofs::SpelledLemmas::spelled_then))]
+fn tell_most<W: Sink>(
+    writer: &mut W,
+    format: Format,
+    before: &[u8],
+    asked: u128,
+    between: &[u8],
+    most: u128,
+    after: &[u8],
+) -> Result<(), DeviceFault>
+    ensures { Writes (W.state writer.old) (W.state writer.new) result
+        (spelled format ((before.now ++ decimal asked) ++ (between.now ++ (decimal most ++ after.now)))) }
+{
+    tell_number_after(writer, format, before, asked)?;
+    tell_number_between(writer, format, between, most, after)
+}
+
+fn tell_depth<W: Sink>(writer: &mut W, format: Format, depth: usize) -> Result<(), DeviceFault>
+    ensures { Writes (W.state writer.old) (W.state writer.new) result
+        (spelled format (depth_words depth)) }
+{
+    tell_most(
+        writer,
+        format,
+        b"depth ",
+        deeper(depth),
+        b", and ",
+        depth as u128,
+        b" is the most",
+    )
+}
+
+fn used_so_far(entries: &[Entry]) -> u128
+    ensures { result ≡ used_from 1 entries.now }
+{
+    u128::from(used(entries))
+}
+
+fn tell_used<W: Sink>(writer: &mut W, format: Format, entries: &[Entry]) -> Result<(), DeviceFault>
+    ensures { Writes (W.state writer.old) (W.state writer.new) result
+        (spelled format (used_words entries.now)) }
+{
+    tell_number_between(
+        writer,
+        format,
+        b"counted so far ",
+        used_so_far(entries),
+        b", and this or the next row changes are too many",
+    )
+}
+
+fn most_in_a_transaction() -> u128
+    ensures { result ≡ most_changes_in_a_transaction }
+{
+    u128::from(MOST_CHANGES_IN_A_TRANSACTION)
+}
+
+fn tell_transaction<W: Sink>(writer: &mut W, format: Format) -> Result<(), DeviceFault>
+    ensures { Writes (W.state writer.old) (W.state writer.new) result (spelled format transaction_words) }
+{
+    tell_number_between(
+        writer,
+        format,
+        b"a transaction has at most ",
+        most_in_a_transaction(),
+        b" row changes",
+    )
+}
+
+// Which limit, and what was counted.
+fn tell_words<W: Sink>(
+    writer: &mut W,
+    format: Format,
+    entries: &[Entry],
+    depth: usize,
+    limit: Limit,
+) -> Result<(), DeviceFault>
+    ensures { Writes (W.state writer.old) (W.state writer.new) result
+        (spelled format (limit_words entries.now depth limit)) }
+{
+    match limit {
+        Limit::Depth => tell_depth(writer, format, depth),
+        Limit::Changes => tell_used(writer, format, entries),
+        Limit::Transaction => tell_transaction(writer, format),
+    }
+}
+
+/// Writes which limit a statement with this account is refused for, what was counted, and the way that led there.
+#[tactic(auto, using(crate::proofs::SpelledLemmas::spelled_then), unfolding(crate::specs::Ways::limit_text))]
+pub(crate) fn tell_limit<W: Sink>(
+    writer: &mut W,
+    format: Format,
+    catalogue: &Catalogue,
+    entries: &[Entry],
+    limit: Limit,
+) -> Result<(), DeviceFault>
+    ensures { Writes (W.state writer.old) (W.state writer.new) result
+        (spelled format (limit_text catalogue.now entries.now limit)) }
+{
+    let depth = depth_of(entries);
+    tell_words(writer, format, entries, depth, limit)?;
+    tell_way(writer, format, catalogue, entries, depth)
+}
+
+// ---- in words
+
+#[tactic(auto, unfolding(crate::specs::Spelled::spelled))]
+fn write_limit<W: Sink>(
+    sink: &mut W,
+    catalogue: &Catalogue,
+    entries: &[Entry],
+    limit: Limit,
+) -> Result<(), DeviceFault>
+    ensures { Writes (W.state sink.old) (W.state sink.new) result
+        (limit_text catalogue.now entries.now limit) }
+{
+    tell_limit(sink, Format::Words, catalogue, entries, limit)
+}
+
+fn write_line<W: Sink>(
+    sink: &mut W,
+    catalogue: &Catalogue,
+    entries: &[Entry],
+    limit: Limit,
+) -> Result<(), DeviceFault>
+    ensures { Writes (W.state sink.old) (W.state sink.new) result
+        (codes "  " ++ (limit_text catalogue.now entries.now limit ++ codes "\n")) }
+{
+    write_all(sink, b"  ")?;
+    write_limit(sink, catalogue, entries, limit)?;
+    write_all(sink, b"\n")
+}
+
+fn write_line_of<W: Sink>(
+    sink: &mut W,
+    catalogue: &Catalogue,
+    entries: &[Entry],
+    limit: Option<Limit>,
+) -> Result<(), DeviceFault>
+    ensures { Writes (W.state sink.old) (W.state sink.new) result
+        (elim limit [ Some l ↦ codes "  " ++ (limit_text catalogue.now entries.now l ++ codes "\n") | None ↦ [] ]) }
+{
+    match limit {
+        Some(limit) => write_line(sink, catalogue, entries, limit),
+        None => write_all(sink, b""),
+    }
+}
+
+/// The line of a statement that is refused for a limit.
+pub(crate) fn write_limit_line<W: Sink>(
+    sink: &mut W,
+    catalogue: &Catalogue,
+    entries: &[Entry],
+    outcome: &Result<Answer, Refusal>,
+) -> Result<(), DeviceFault>
+    ensures { Writes (W.state sink.old) (W.state sink.new) result
+        (limit_line catalogue.now entries.now outcome.now) }
+{
+    match outcome {
+        Ok(_) => write_all(sink, b""),
+        Err(refusal) => write_line_of(sink, catalogue, entries, limit_of(&refusal.cause)),
+    }
+}

@@ -1,0 +1,37 @@
+-- What an account tells of numbers that are out of range.
+CREATE TABLE book (title VARCHAR(20), price INT);
+CREATE TABLE sale (title VARCHAR(20), total INT);
+INSERT INTO book VALUES ('Emma', 9223372036854775807 + 1);
+INSERT INTO book (price, title) VALUES (1, 'a'), (2 * 3 - 9223372036854775807 - 9, 'b');
+INSERT INTO book VALUES ('Emma', 9223372036854775807), ('Dracula', -9223372036854775807 - 1), ('Walden', 8);
+UPDATE book SET price = price + 1;
+UPDATE book SET title = 'x', price = -price WHERE price < 0;
+UPDATE book SET title = title, price = (price + 2) * (price + 3) WHERE price > 8;
+UPDATE book SET price = 1 WHERE price * 2 > 0;
+DELETE FROM book WHERE title = 'Walden' OR price - 1 < 0;
+DELETE FROM book WHERE price * 2 > 0 AND price + 1 > 0;
+INSERT INTO sale SELECT title, price * 2 FROM book WHERE title = 'Dracula';
+INSERT INTO sale SELECT * FROM book WHERE price + price = 16;
+SELECT title, price + 1 FROM book;
+SELECT COUNT(*) FROM book WHERE NOT price + 1 = 0;
+INSERT INTO sale VALUES ('a', 1), ('b', 2);
+DELETE FROM book WHERE EXISTS (SELECT * FROM sale WHERE total + price < 0);
+COMMIT;
+CREATE TRIGGER raised BEFORE UPDATE ON book REFERENCING NEW AS n FOR EACH ROW SET n.price = n.price + 1;
+UPDATE book SET title = 'X' WHERE title <> 'Walden';
+DROP TRIGGER raised;
+CREATE TRIGGER doubled BEFORE INSERT ON book REFERENCING NEW AS n FOR EACH ROW WHEN (n.price * 2 > 10) SET n.title = 'dear';
+INSERT INTO book VALUES ('a', 6), ('b', 9223372036854775807);
+DROP TRIGGER doubled;
+CREATE TRIGGER sold AFTER DELETE ON book REFERENCING OLD AS o FOR EACH ROW WHEN (o.price - 1 < 0) INSERT INTO sale VALUES (o.title, 0);
+DELETE FROM book;
+DROP TRIGGER sold;
+CREATE TRIGGER counted AFTER INSERT ON sale REFERENCING NEW AS n FOR EACH ROW
+    BEGIN ATOMIC UPDATE book SET price = n.total WHERE title = n.title; INSERT INTO book VALUES (n.title, n.total + 1); END;
+INSERT INTO sale VALUES ('Walden', 9223372036854775807);
+DROP TRIGGER counted;
+CREATE TRIGGER summed AFTER UPDATE ON book REFERENCING OLD TABLE AS was INSERT INTO sale SELECT title, price - 1 FROM was;
+UPDATE book SET price = 0 WHERE price < 0;
+DROP TRIGGER summed;
+CREATE TRIGGER once BEFORE DELETE ON book WHEN (EXISTS (SELECT * FROM book WHERE price - 1 > 0)) SIGNAL 'no';
+DELETE FROM book;
