@@ -189,6 +189,31 @@ static int closed(void) {
     return 0;
 }
 
+/* A number out of range at a row, which is the item; in VALUES, with neither row; and in the WHEN of a trigger, with its new row. */
+static int failure(sqlkeep *session) {
+    sqlkeep_outcome outcome;
+    sqlkeep_entry_shown entry;
+    sqlkeep_item item;
+    uint8_t bytes[20];
+    size_t count = 0;
+    WANT(executed(session,
+        "CREATE TABLE sums (a INT, b VARCHAR(3)); INSERT INTO sums VALUES (5, 'x'); COMMIT;"
+        "CREATE TRIGGER far AFTER INSERT ON sums REFERENCING NEW AS n FOR EACH ROW WHEN (n.a + 9223372036854775807 > 0) SIGNAL 'far';", &outcome) == SQLKEEP_DONE);
+    WANT(executed(session, "UPDATE sums SET a = a + 9223372036854775807;", &outcome) == SQLKEEP_REFUSED && outcome.cause == SQLKEEP_CAUSE_NUMBER_OUT_OF_RANGE);
+    WANT(sqlkeep_entries(session, &count) == SQLKEEP_OK && count == 1);
+    WANT(sqlkeep_entry(session, 0, &entry) == SQLKEEP_OK && entry.kind == SQLKEEP_ENTRY_FAILURE && entry.items == 1 && entry.has_old == 0 && entry.has_new == 0);
+    WANT(sqlkeep_entry_item(session, 0, 0, &item) == SQLKEEP_OK && item.has_old == 0 && item.has_new == 1);
+    WANT(is_integer(session, 0, 0, SQLKEEP_NEW, 0, 5) && is_text(session, 0, 0, SQLKEEP_NEW, 1, "x"));
+    WANT(sqlkeep_entry_item(session, 0, 1, &item) == SQLKEEP_NOTHING);
+    WANT(executed(session, "INSERT INTO sums VALUES (1, 'four');", &outcome) == SQLKEEP_REFUSED && outcome.cause == SQLKEEP_CAUSE_TEXT_TOO_LONG);
+    WANT(sqlkeep_entries(session, &count) == SQLKEEP_OK && count == 1 && is_entry(session, 0, SQLKEEP_ENTRY_FAILURE, 0));
+    WANT(executed(session, "INSERT INTO sums VALUES (1, 'y');", &outcome) == SQLKEEP_REFUSED && outcome.cause == SQLKEEP_CAUSE_NUMBER_OUT_OF_RANGE);
+    WANT(sqlkeep_entries(session, &count) == SQLKEEP_OK && count == 2 && is_entry(session, 1, SQLKEEP_ENTRY_FAILURE, 0));
+    WANT(sqlkeep_entry(session, 1, &entry) == SQLKEEP_OK && entry.has_old == 0 && entry.has_new == 1);
+    WANT(sqlkeep_entry_trigger(session, 1, 0, bytes, sizeof bytes, &count) == SQLKEEP_OK && count == 3 && memcmp(bytes, "FAR", 3) == 0);
+    return 0;
+}
+
 int main(void) {
     sqlkeep session = SQLKEEP_EMPTY;
     sqlkeep_outcome outcome;
@@ -197,6 +222,7 @@ int main(void) {
     int failed = cascade(&session);
     failed = failed ? failed : violation(&session);
     failed = failed ? failed : disagreement(&session);
+    failed = failed ? failed : failure(&session);
     failed = failed ? failed : skipped(&session);
     failed = failed ? failed : transition(&session);
     WANT(sqlkeep_close(&session) == SQLKEEP_OK);
