@@ -4,6 +4,7 @@ ghost use Rattle.iv_connection.specs.Accounts.{change_shown, change_side, disagr
 ghost use Rattle.iv_connection.specs.Copying.{Copies};
 ghost use Rattle.iv_connection.specs.Cells.{text_of, cell_of};
 ghost use Rattle.iv_connection.specs.Statuses.{found};
+ghost use Rattle.iv_connection.specs.Texts.{trigger_named};
 
 use crate::cell::{Cell, cell_of, text_of};
 use crate::connection::Connection;
