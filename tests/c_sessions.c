@@ -226,7 +226,7 @@ static const char LARGE[] =
     "CREATE TABLE many (a INT); INSERT INTO many VALUES (0); COMMIT;"
     "INSERT INTO many SELECT a FROM many; UPDATE many SET a = a + 1; INSERT INTO t VALUES (5); ROLLBACK;";
 
-/* At 1,048,576 changes of a transaction an INSERT is refused before its triggers are asked, so nothing is told of it. */
+/* At 1,048,576 changes of a transaction an INSERT is refused before its triggers are asked, so only the limit is told. */
 static int a_full_transaction(void) {
     sqlkeep session = SQLKEEP_EMPTY;
     sqlkeep_script script;
@@ -247,7 +247,7 @@ static int a_full_transaction(void) {
     WANT(sqlkeep_execute(&session, 7, &outcome) == SQLKEEP_OK && sqlkeep_lines(&session, 1) == SQLKEEP_OK);
     WANT(has_transcript(&session, "1 ok 1\n  trigger BEFORE_T NEW (5)\n  insert T row 32769 (6)\n"));
     WANT(sqlkeep_execute(&session, 7, &outcome) == SQLKEEP_OK && outcome.cause == SQLKEEP_CAUSE_TRANSACTION_TOO_LARGE);
-    WANT(sqlkeep_lines(&session, 2) == SQLKEEP_OK && has_transcript(&session, "2 refused 18 TransactionTooLarge\n"));
+    WANT(sqlkeep_lines(&session, 2) == SQLKEEP_OK && has_transcript(&session, "2 refused 18 TransactionTooLarge\n  a transaction has at most 1048576 row changes\n"));
     WANT(sqlkeep_execute(&session, 8, &outcome) == SQLKEEP_OK && outcome.kind == SQLKEEP_DONE);
     WANT(sqlkeep_close(&session) == SQLKEEP_OK);
     return 0;

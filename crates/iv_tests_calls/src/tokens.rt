@@ -3,7 +3,7 @@ use crate::shown::{show, show_number};
 use crate::story::compare;
 use iv_lex::{Token, TokenKind, folded_text, tokens};
 use iv_parse_data::insert;
-use iv_parse_terms::{Cursor, Source, Stop};
+use iv_parse_terms::{Cursor, Stop};
 use iv_syntax::Insert;
 use std::alloc::Global;
 use std::panic::Expect;
@@ -31,9 +31,8 @@ fn show_insert_in(
     tokens: &[Token],
     shown: &mut String,
 ) {
-    let source = Source::new(alloc, text, tokens);
-    let mut cursor = Cursor::new(0);
-    match insert(&source, &mut cursor) {
+    let mut cursor = Cursor::new(alloc, text, tokens, 0);
+    match insert(&mut cursor) {
         Ok(found) => {
             show_insert(rt, &found, shown);
             drop(found);
