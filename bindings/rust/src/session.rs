@@ -430,7 +430,7 @@ impl Session {
     ///     it.execute("INSERT INTO t VALUES (?);", (1,))?;
     ///     it.execute("INSERT INTO t VALUES (?);", (1,))
     /// });
-    /// assert_eq!(refused.unwrap_err().to_string(), "Violation: T_C1: T row 1 (1) has the key of row 2 (1)");
+    /// assert_eq!(refused.unwrap_err().to_string(), "Violation: T_C1 (PRIMARY KEY (A)): T row 1 (1) has the key of row 2 (1)");
     /// assert_eq!(session.query::<(i64,)>("SELECT a FROM t;", ())?, []);
     /// # Ok(())
     /// # }
