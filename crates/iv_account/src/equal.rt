@@ -63,7 +63,7 @@ fn next_row<'a, R: Rows>(
     ensures { option_map (λ r. (r.0, r.1.now)) result ≡ option_map numbered
         (row_above after (searched found.now (table_rows (R.rows rows.entry.now) table))) }
 {
-    rows.known();
+    rows.recall_order();
     match found {
         Some(numbers) => match numbers.next_above(after) {
             Some(number) => rows.scan(table, number.saturating_sub(1)),
@@ -107,7 +107,7 @@ fn find_among<'a, R: Rows>(
         ≡ find (shares_key nulls columns.now row.now)
         (searched found.now (table_rows (R.rows rows.entry.now) table)) }
 {
-    rows.known();
+    rows.recall_order();
     let mut after = 0;
     while let Some((number, values)) = next_row(rows, table, found, after) {
         after = number;
@@ -156,7 +156,7 @@ fn find_equal<'a, R: Rows>(
     ensures { option_map (λ p. record { table = table; number = p.0; values = p.1.now }) result
         ≡ find (shares_key nulls columns.now row.now) (table_rows (R.rows rows.entry.now) table) }
 {
-    rows.known();
+    rows.recall_order();
     let found = rows_of_key(rows, table, asked, nulls, columns, row.values.values());
     find_among(rows, table, &found, nulls, columns, row)
 }

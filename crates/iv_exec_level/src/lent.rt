@@ -79,7 +79,7 @@ pub fn statement_frame<'a>(
 }
 
 /// The changes of a trigger's table and event are its transitions.
-pub fn are_transitions(
+pub fn recall_transitions(
     context: &Context<'_>,
     trigger: &Trigger,
     transitions: &Transitions,

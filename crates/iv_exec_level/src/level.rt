@@ -24,7 +24,7 @@ ghost use Rattle.iv_exec_waves.specs.Steps.{wave_with};
 ghost use Rattle.iv_machine.specs.Proposals.{set_columns};
 ghost use Rattle.iv_exec_level.specs.Steps.{Finishes, Progresses, body_run_where_true, finished, firing_of, innermost, progress, waves_and_after};
 
-use crate::lent::{are_transitions, row_frame, statement_at, statement_frame, trigger_at};
+use crate::lent::{recall_transitions, row_frame, statement_at, statement_frame, trigger_at};
 use crate::start::{LevelChanges, allowed, check, settle_waves, when_of};
 use iv_account::Account;
 use iv_catalogue::{BodyStatement, Catalogue, Cause, DataStatement, Refusal, Trigger, TriggerId};
@@ -331,11 +331,11 @@ fn fire_trigger<K: ChangeableRows>(
     match firings(statement, trigger, columns, &*transitions) {
         Fires::Never => Ok(()),
         Fires::Once(changes) => {
-            are_transitions(&*context, trigger, &*transitions, changes);
+            recall_transitions(&*context, trigger, &*transitions, changes);
             fire_once(store, &*context, trigger, changes, deeper, budget, account)
         }
         Fires::EachRow(changes) => {
-            are_transitions(&*context, trigger, &*transitions, changes);
+            recall_transitions(&*context, trigger, &*transitions, changes);
             fire_rows(store, &*context, trigger, changes, deeper, budget, account)
         }
     }

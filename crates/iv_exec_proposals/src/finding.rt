@@ -66,7 +66,7 @@ pub fn numbers_where<R: Rows>(
     let mut found = Vec::new(alloc);
     let mut after = 0;
     let search = scope.search(table, filter);
-    search.known();
+    search.recall_order();
     while let Some((number, row)) = search.next(after) {
         after = number;
         take_number(scope, filter, number, row, &mut found)?;
@@ -105,7 +105,7 @@ pub fn count_where<R: Rows>(
     let mut found = 0;
     let mut after = 0;
     let search = scope.search(table, filter);
-    search.known();
+    search.recall_order();
     while let Some((number, row)) = search.next(after) {
         after = number;
         found = count_row(scope, filter, row, found)?;
@@ -151,7 +151,7 @@ pub fn rows_where<K: ChangeableRows>(
         (and_then (matching_rows scope.now filter.now (table_rows scope.now.rows table))
         (λ found. Ok (contents found))) }
 {
-    scope.known();
+    scope.recall_order();
     let numbers = numbers_where(store.allocator(), scope, table, filter)?;
     rows_numbered(store, numbers.as_slice())
 }

@@ -186,7 +186,7 @@ pub fn updates<K: ChangeableRows>(
         (and_then (matching_rows scope.now filter.now (table_rows scope.now.rows table))
         (each (update_of context.now scope.now settings.now))) }
 {
-    scope.known();
+    scope.recall_order();
     let numbers = numbers_where(store.allocator(), scope, table, filter)?;
     update_numbers(store, context, scope, settings, numbers.as_slice())
 }
@@ -235,7 +235,7 @@ pub fn deletions<K: ChangeableRows>(
         (and_then (matching_rows scope.now filter.now (table_rows scope.now.rows table))
         (λ found. Ok (map deletion found))) }
 {
-    scope.known();
+    scope.recall_order();
     let numbers = numbers_where(store.allocator(), scope, table, filter)?;
     delete_numbers(store, numbers.as_slice())
 }

@@ -18,18 +18,18 @@ use iv_value::{Value, ValueRef};
 use std::alloc::{AllocError, Global};
 
 // Does nothing: a text is in UTF-8.
-fn known_text(text: &str)
+fn recall_text(text: &str)
     ensures { IsUtf8 text.now }
 {
     let _ = text;
 }
 
 // Does nothing: a value's text is in UTF-8.
-pub fn known_value(value: ValueRef<'_>)
+pub fn recall_value(value: ValueRef<'_>)
     ensures { IsText (value_of value.entry) }
 {
     if let ValueRef::Text(text) = value {
-        known_text(text.as_str());
+        recall_text(text.as_str());
     }
 }
 
@@ -70,7 +70,7 @@ fn ask_value<R: Rows>(
     match value_in(expr, inside) {
         Ok(ValueRef::Null) => Ok(false),
         Ok(value) => {
-            known_value(value);
+            recall_value(value);
             set(asked, column, value.to_value()?);
             Ok(true)
         }

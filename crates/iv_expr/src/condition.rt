@@ -64,7 +64,7 @@ fn exists_in_table<R: Rows>(
     let mut found = false;
     let mut after = 0;
     let search = (&*scope).search(table, &*cond);
-    search.known();
+    search.recall_order();
     while let Some((number, row)) = search.next(after) {
         after = number;
         let ranges = (&*scope).ranges_with(row);
@@ -119,7 +119,7 @@ pub struct NoTables {}
 impl Rows for NoTables {
     ghost rows = { λ s. [] };
 
-    fn known(&self) {}
+    fn recall_order(&self) {}
 
     fn scan(&self, _table: TableId, _after: u64) -> Option<(u64, &[Value])> {
         None

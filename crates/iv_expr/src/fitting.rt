@@ -3,14 +3,14 @@ ghost use Rattle.std.specs.Prelude.{◌≡◌, true};
 ghost use Rattle.iv_expr.specs.Searches.{Fits, IsText};
 ghost use Rattle.iv_expr.specs.Suiting.{of_sort, sort_of_kind};
 
-use crate::asking::known_value;
+use crate::asking::recall_value;
 use iv_value::{Kind, Value};
 
 fn is_of(value: &Value, kind: Kind) -> bool
     ensures sort { result ≡ true → of_sort (sort_of_kind kind) value.now ≡ true }
     ensures text { IsText value.now }
 {
-    known_value(value.as_ref());
+    recall_value(value.as_ref());
     match (value, kind) {
         (Value::Null, _) => true,
         (Value::Int(_), Kind::Integer) => true,

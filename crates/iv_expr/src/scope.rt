@@ -19,7 +19,7 @@ pub trait Rows {
     ghost rows: { Self → List StoredRow };
 
     /// Does nothing: the rows are by rising number.
-    fn known(&self)
+    fn recall_order(&self)
         ensures { Rises 0 (rows self.now) };
 
     /// The next row of a table above a number, with its number; nothing if there is no such table.
@@ -196,10 +196,10 @@ impl<'a, R: Rows> Scope<'a, R> {
     }
 
     /// Does nothing: the rows are by rising number.
-    pub fn known(&self)
+    pub fn recall_order(&self)
         ensures { Rises 0 self.now.rows }
     {
-        self.rows.known()
+        self.rows.recall_order()
     }
 
     /// The next row of a table above a number, with its number.

@@ -39,17 +39,17 @@ impl<'a, R: Rows> Model for Search<'a, R> {
 
 impl<'a, R: Rows> Search<'a, R> {
     /// Does nothing: the rows are by rising number.
-    pub fn known(&self)
+    pub fn recall_order(&self)
         ensures { Rises 0 self.now }
     {
-        self.rows.known()
+        self.rows.recall_order()
     }
 
     /// The next row above a number, with its number.
     pub fn next(&self, after: u64) -> Option<(u64, &[Value])>
         ensures { option_map (λ r. (r.0, r.1.now)) result ≡ option_map numbered (row_above after self.now) }
     {
-        self.rows.known();
+        self.rows.recall_order();
         match &self.found {
             Some(numbers) => match numbers.next_above(after) {
                 Some(number) => self.rows.scan(self.table, number.saturating_sub(1)),
@@ -83,7 +83,7 @@ fn holders_for<'a, R: Rows>(
     if !has_equality(cond) {
         return None;
     }
-    rows.known();
+    rows.recall_order();
     let known = rows.known_kinds(table)?;
     let any: &[Value] = &[];
     let ranges = scope.ranges_with(any);

@@ -162,7 +162,7 @@ fn column_constraint_of(
 impl ParseSome for ColumnConstraint {
     ghost found_some = { read_column_constraint };
 
-    fn takes_a_word() {}
+    fn recall_word() {}
 
     #[tactic(auto, unfolding(crate::specs::readers::Tables::read_column_constraint))]
     fn parse_some(cursor: &mut Cursor<'_>) -> Result<Option<ColumnConstraint>, Stop> {

@@ -36,7 +36,7 @@ pub trait ParseSome: Sized {
     ghost found_some: { List Word → Option (Option Self × List Word) };
 
     /// Each part takes a word at least. It does nothing: its contract is what counts.
-    fn takes_a_word()
+    fn recall_word()
         ensures { (ws rest : List Word) (part : Self) → found_some ws ≡ Some (Some part, rest)
             → length rest < length ws };
 

@@ -34,7 +34,7 @@ fn item_of(cursor: &mut Cursor<'_>, side: Side) -> Result<Option<Referencing>, S
 impl ParseSome for Referencing {
     ghost found_some = { read_referencing_item };
 
-    fn takes_a_word() {}
+    fn recall_word() {}
 
     #[tactic(auto, unfolding(crate::specs::readers::Items::read_referencing_item))]
     fn parse_some(cursor: &mut Cursor<'_>) -> Result<Option<Referencing>, Stop> {

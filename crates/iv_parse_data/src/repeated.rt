@@ -61,7 +61,7 @@ pub fn enclosed_series<T: Parse + Drop>(cursor: &mut Cursor<'_>) -> Result<Items
 pub fn sequence<T: ParseSome + Drop>(cursor: &mut Cursor<'_>) -> Result<Items<T>, Stop>
     ensures { Reads (read_all T.found_some) cursor.old result cursor.new }
 {
-    T::takes_a_word();
+    T::recall_word();
     let mut items = Items::new(cursor.alloc());
     loop {
         let place = cursor.place();

@@ -79,17 +79,17 @@ fn foreign_keys_of(tables: &[TableConstraints], table: TableId) -> &[u32]
 }
 
 // Does nothing. It says that no two groups of a constraint have one key.
-fn keys_once(groups: &Groups)
+fn recall_keys(groups: &Groups)
     ensures { KeysOnce (shown groups.now.groups) }
 {
-    groups.are_kept();
+    groups.recall_groups();
 }
 
 // Does nothing. It says the same of groups that are lent by the calls that are counted.
-fn counted_keys_once(groups: &CountedGroups)
+fn recall_counted_keys(groups: &CountedGroups)
     ensures { KeysOnce (shown groups.now.groups) }
 {
-    groups.are_kept();
+    groups.recall_groups();
 }
 
 // Makes room for a change and follows it.
@@ -251,7 +251,7 @@ impl Faults {
             groups,
             more,
         )?;
-        keys_once(groups);
+        recall_keys(groups);
         Ok(())
     }
 
@@ -282,7 +282,7 @@ impl Faults {
             self.references.as_slice(),
             change,
         )?;
-        counted_keys_once(groups);
+        recall_counted_keys(groups);
         Ok(())
     }
 
@@ -310,7 +310,7 @@ impl Faults {
             self.references.as_slice(),
             change,
         );
-        counted_keys_once(groups);
+        recall_counted_keys(groups);
     }
 
     /// Gives back groups without rows, and the room of others, as many steps as are due since the last call (`take_due`
@@ -340,7 +340,7 @@ impl Faults {
         ensures { (rows : List StoredRow) → IsShownBy rows self.now groups.now
             → result ≡ first (scan rows self.now.constraints (is_chosen modes.now.modes which)) }
     {
-        keys_once(groups);
+        recall_keys(groups);
         self.violating.first(groups, modes, which)
     }
 
@@ -351,7 +351,7 @@ impl Faults {
         ensures { (rows : List StoredRow) → IsShownBy rows self.now groups.now
             → result ≡ min (length (scan rows self.now.constraints (is_chosen modes.now.modes which))) (2 ^ 64 - 1) }
     {
-        keys_once(groups);
+        recall_keys(groups);
         self.violating.count(groups, modes, which)
     }
 
@@ -367,7 +367,7 @@ impl Faults {
         ensures { IfOk result (λ faults. (rows : List StoredRow) → IsShownBy rows self.now groups.now
             → faults.items ≡ scan rows self.now.constraints (is_chosen modes.now.modes which)) }
     {
-        keys_once(groups);
+        recall_keys(groups);
         let faults = self.violating.list(self.alloc, groups, modes, which)?;
         Ok(faults)
     }

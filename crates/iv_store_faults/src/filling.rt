@@ -83,7 +83,7 @@ fn fill_rows<R: Rows>(
     ensures count { length groups.new.groups ≡ length groups.old.groups }
     ensures grows { groups.old.looked_up ≤ groups.new.looked_up }
 {
-    rows.known();
+    rows.recall_order();
     let mut after = 0;
     while let Some((number, row)) = rows.scan(constraint.table, after) {
         after = number;
@@ -156,7 +156,7 @@ fn first_violating<R: Rows>(
     ensures kept { groups.new.groups ≡ groups.old.groups }
     ensures grows { groups.old.looked_up ≤ groups.new.looked_up }
 {
-    rows.known();
+    rows.recall_order();
     let mut after = 0;
     while let Some((number, row)) = rows.scan(constraint.table, after) {
         after = number;

@@ -48,7 +48,7 @@ fn give_back_at(groups: &mut Groups, violating: &mut ViolatingGroups, id: usize,
     requires place { place < length (groups_of groups.old.groups id) }
     ensures { AllGiven groups.old groups.new violating.old violating.new }
 {
-    groups.are_kept();
+    groups.recall_groups();
     let last = groups.count_groups(id) - 1;
     if groups.give_back(id, place) {
         follow_group(violating, id, last, place);

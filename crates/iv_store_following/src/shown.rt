@@ -22,15 +22,15 @@ pub fn find(groups: &mut CountedGroups, id: usize, key: &Key<'_>) -> Option<Foun
     ensures grows { groups.old.looked_up ≤ groups.new.looked_up }
     ensures looked_up { groups.new.looked_up ≤ groups.old.looked_up + 1 }
 {
-    groups.are_kept();
+    groups.recall_groups();
     groups.find(id, key)
 }
 
 /// Does nothing. Its contract says that the rows under each key rise.
-pub fn rows_rise(groups: &CountedGroups)
+pub fn recall_order(groups: &CountedGroups)
     ensures { (id : ℕ) (key : List Value) → Rise (rows_in (shown_of groups.now.groups id) key) }
 {
-    groups.are_kept();
+    groups.recall_groups();
 }
 
 /// Ensures that a key has room for one more row, in its group or in a new one behind the others. It takes one look-up.
@@ -64,7 +64,7 @@ pub fn put(groups: &mut CountedGroups, id: usize, key: &Key<'_>, row: u64) -> Fo
     ensures grows { groups.old.looked_up ≤ groups.new.looked_up }
     ensures looked_up { groups.new.looked_up ≤ groups.old.looked_up + 1 }
 {
-    groups.are_kept();
+    groups.recall_groups();
     groups.put_back(id, key, row)
 }
 
@@ -83,6 +83,6 @@ pub fn take(groups: &mut CountedGroups, id: usize, key: &Key<'_>, row: u64) -> F
     ensures grows { groups.old.looked_up ≤ groups.new.looked_up }
     ensures looked_up { groups.new.looked_up ≤ groups.old.looked_up + 1 }
 {
-    groups.are_kept();
+    groups.recall_groups();
     groups.remove(id, key, row)
 }

@@ -15,7 +15,7 @@ ghost use Rattle.iv_store_following.specs.Steps.{IsReady, IsWatched, OnlyOf, Row
 
 use crate::borrowed_change::BorrowedChange;
 use crate::keys::{is_free, is_one_key, new_key, old_key};
-use crate::shown::{find, make_room, put, rows_rise, take};
+use crate::shown::{find, make_room, put, recall_order, take};
 use iv_catalogue::{Constraint, Rule};
 use iv_key::Key;
 use iv_store_groups::CountedGroups;
@@ -201,7 +201,7 @@ pub fn move_row(
     ensures only { OnlyOf id 2 groups.old groups.new violating.old violating.new }
     ensures watched { IsWatched id groups.new.groups violating.new }
 {
-    rows_rise(groups);
+    recall_order(groups);
     if groups.count_groups(id) == 0 {
         return;
     }

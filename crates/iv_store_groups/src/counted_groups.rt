@@ -64,12 +64,12 @@ impl CountedGroups {
 
     /// Does nothing. Its contract tells what holds of the groups of every constraint: each is found under its key, no
     /// two have one key, and the rows of every key rise.
-    pub fn are_kept(&self)
+    pub fn recall_groups(&self)
         ensures found { (constraint : ℕ) → EachIsFound (groups_of self.now.groups constraint) }
         ensures apart { (constraint : ℕ) → EachIsApart (groups_of self.now.groups constraint) }
         ensures rising { (constraint : ℕ) → EachRises (groups_of self.now.groups constraint) }
     {
-        kept(self.indexes.as_slice());
+        recall_groups(self.indexes.as_slice());
     }
 
     /// How many groups a constraint has. It tells nothing of them.

@@ -75,12 +75,12 @@ impl Groups {
 
     /// Does nothing. Its contract tells what holds of the groups of every constraint: each is found under its key, no
     /// two have one key, and the rows of every key rise.
-    pub fn are_kept(&self)
+    pub fn recall_groups(&self)
         ensures found { (constraint : ℕ) → EachIsFound (groups_of self.now.groups constraint) }
         ensures apart { (constraint : ℕ) → EachIsApart (groups_of self.now.groups constraint) }
         ensures rising { (constraint : ℕ) → EachRises (groups_of self.now.groups constraint) }
     {
-        self.counted.are_kept();
+        self.counted.recall_groups();
     }
 
     /// Ensures that there are so many constraints at least. A new one has no group.

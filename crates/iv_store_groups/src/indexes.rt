@@ -115,7 +115,7 @@ pub fn make_room_under(
 {
     let index = &mut indexes[constraint];
     let made = index.make_room(alloc, key);
-    index.are_sound();
+    index.recall_groups();
     made
 }
 
@@ -138,7 +138,7 @@ pub fn add_under(
 {
     let index = &mut indexes[constraint];
     let made = index.add(alloc, key, row);
-    index.are_sound();
+    index.recall_groups();
     made
 }
 
@@ -155,7 +155,7 @@ pub fn put_under(indexes: &mut Vec<KeyIndex>, constraint: usize, key: &Key<'_>, 
 {
     let index = &mut indexes[constraint];
     let place = index.put_back(key, row);
-    index.are_sound();
+    index.recall_groups();
     place
 }
 
@@ -177,7 +177,7 @@ pub fn remove_under(
 {
     let index = &mut indexes[constraint];
     let place = index.remove(key, row);
-    index.are_sound();
+    index.recall_groups();
     place
 }
 
@@ -194,12 +194,12 @@ pub fn give_back_under(indexes: &mut Vec<KeyIndex>, constraint: usize, place: us
 {
     let index = &mut indexes[constraint];
     let dead = index.give_back(place);
-    index.are_sound();
+    index.recall_groups();
     dead
 }
 
 /// Does nothing. Its contract says what holds of the groups of every constraint.
-pub fn kept(indexes: &[KeyIndex])
+pub fn recall_groups(indexes: &[KeyIndex])
     requires { AreSound indexes.now }
     ensures found { (constraint : ℕ) → EachIsFound (groups_of indexes.now constraint) }
     ensures apart { (constraint : ℕ) → EachIsApart (groups_of indexes.now constraint) }

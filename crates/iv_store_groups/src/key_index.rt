@@ -91,7 +91,7 @@ fn find_near(hashes: &HashIndex, groups: &[Group], recent: usize, key: &Key<'_>)
 }
 
 // Does nothing. Its contract says what holds of groups beside their hashes.
-fn sound(hashes: &HashIndex, groups: &[Group])
+fn recall_groups(hashes: &HashIndex, groups: &[Group])
     requires { IsIndexed hashes.now groups.now }
     ensures { IsSound groups.now }
 {
@@ -360,10 +360,10 @@ impl KeyIndex {
 
     /// Does nothing. Its contract says what holds of the groups: each is found under its key, no two have one key, and the rows
     /// of every key rise.
-    pub fn are_sound(&self)
+    pub fn recall_groups(&self)
         ensures { IsSound self.now }
     {
-        sound(&self.hashes, self.groups.as_slice());
+        recall_groups(&self.hashes, self.groups.as_slice());
     }
 
     /// The place of a key's group.

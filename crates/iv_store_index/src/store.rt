@@ -73,8 +73,8 @@ impl Model for IndexStore {
 impl Rows for IndexStore {
     ghost rows = { λ s. s.state.base.rows };
 
-    fn known(&self) {
-        self.versions.known();
+    fn recall_order(&self) {
+        self.versions.recall_order();
     }
 
     fn scan(&self, table: TableId, after: u64) -> Option<(u64, &[Value])> {
@@ -116,7 +116,7 @@ impl ReferencingRows for IndexStore {
         foreign_key: ConstraintId,
         key: &Key<'_>,
     ) -> Result<Vec<u64>, AllocError> {
-        self.versions.known();
+        self.versions.recall_order();
         children(
             self.alloc,
             self.groups.counted(),

@@ -74,7 +74,7 @@ impl Model for PlainStore {
 impl Rows for PlainStore {
     ghost rows = { λ s. s.base.rows };
 
-    fn known(&self) {
+    fn recall_order(&self) {
         let _ = self.database.rows();
     }
 

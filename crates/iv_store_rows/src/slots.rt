@@ -50,7 +50,7 @@ impl Slots {
     }
 
     /// Does nothing: the slots and the rows are by rising number.
-    pub fn known(&self)
+    pub fn recall_order(&self)
         ensures rises { Rises 0 (live_rows self.now.slots) }
         ensures files { Files self.now.slots self.now.numbers }
     {

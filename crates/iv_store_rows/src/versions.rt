@@ -46,8 +46,8 @@ impl Model for Versions {
 impl Rows for Versions {
     ghost rows = { λ h. h.rows };
 
-    fn known(&self) {
-        self.slots.known();
+    fn recall_order(&self) {
+        self.slots.recall_order();
     }
 
     fn scan(&self, table: TableId, after: u64) -> Option<(u64, &[Value])> {
@@ -94,7 +94,7 @@ fn undo_last(slots: &mut Slots, journal: &mut Journal)
     ensures slots { HaveSlots slots.new.slots journal.new }
     ensures room { EnoughRoom slots.new.numbers journal.new }
 {
-    slots.known();
+    slots.recall_order();
     if let Some(change) = journal.pop() {
         let Change {
             table,
@@ -158,7 +158,7 @@ impl Versions {
         ensures back { OnOk result (rows_before change.now self.new.rows ≡ self.old.rows) }
         ensures err { OnErr result (self.new ≡ self.old) }
     {
-        self.slots.known();
+        self.slots.recall_order();
         make(&mut self.slots, &mut self.journal, change)?;
         self.next = (change.row + 1).max(self.next);
         Ok(())

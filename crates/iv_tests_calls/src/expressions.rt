@@ -19,7 +19,7 @@ pub struct NoTables {}
 impl Rows for NoTables {
     ghost rows = { λ s. [] };
 
-    fn known(&self) {}
+    fn recall_order(&self) {}
 
     fn scan(&self, _table: TableId, _after: u64) -> Option<(u64, &[Value])> {
         None

@@ -102,7 +102,7 @@ fn in_table<R: Rows>(table: TableId, condition: &Cond, scope: &Scope<'_, R>) -> 
         (condition_failure (within scope.now row) condition.now))
         (contents (table_rows scope.now.rows table)) }
 {
-    (&*scope).known();
+    (&*scope).recall_order();
     let mut after = 0;
     while let Some((number, row)) = (&*scope).scan(table, after) {
         after = number;

@@ -93,7 +93,7 @@ fn from_table<R: Rows>(
         (insertion_failure catalogue.now scope.now table listed.now outputs.now))
         (table_rows scope.now.rows source)) }
 {
-    scope.known();
+    scope.recall_order();
     let mut after = 0;
     while let Some((number, values)) = scope.scan(source, after) {
         after = number;

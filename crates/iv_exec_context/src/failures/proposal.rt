@@ -49,7 +49,7 @@ fn updates_in_table<R: Rows>(
         (update_failure catalogue.now scope.now table settings.now))
         (table_rows scope.now.rows table)) }
 {
-    scope.known();
+    scope.recall_order();
     let mut after = 0;
     while let Some((number, values)) = scope.scan(table, after) {
         after = number;

@@ -101,7 +101,7 @@ fn selections_in_table<R: Rows>(
     ensures { IfOk result (λ f. f ≡ first_of (if_true_at scope.now filter.now
         (selection_failure scope.now outputs.now)) (table_rows scope.now.rows table)) }
 {
-    scope.known();
+    scope.recall_order();
     let mut after = 0;
     while let Some((number, values)) = scope.scan(table, after) {
         after = number;

@@ -65,7 +65,7 @@ pub fn where_in_table<R: Rows>(
     ensures { IfOk result (λ f. f ≡ first_of (where_failure scope.now filter.now)
         (table_rows scope.now.rows table)) }
 {
-    scope.known();
+    scope.recall_order();
     let mut after = 0;
     while let Some((number, values)) = scope.scan(table, after) {
         after = number;

@@ -16,14 +16,14 @@ pub loop-number-init : goal.loop-number-init
 loop-number-init g c =
     ap (λ (rows : List StoredRow). find (shares_key c.args.nulls c.args.columns.now c.args.row.now) rows)
     (above_all 0 0 (searched c.args.found.now (table_rows (g.R.Rows.rows c.args.rows.now) c.args.table))
-    (searched_rises c.args.found.now _ (table_rises 0 c.args.table (g.R.Rows.rows c.args.rows.now) c.known.ensures)) (omega arith))
+    (searched_rises c.args.found.now _ (table_rises 0 c.args.table (g.R.Rows.rows c.args.rows.now) c.recall_order.ensures)) (omega arith))
 
 pub returns-then-shares_key : goal.returns-then-shares_key
 returns-then-shares_key g c =
     passes (shares_key c.args.nulls c.args.columns.now c.args.row.now) c.args.table c.loop-number.after
     (searched c.args.found.now (table_rows (g.R.Rows.rows c.args.rows.now) c.args.table)) (c.in-Some.number, c.in-Some.values.now)
     (searched_on c.args.found.now c.args.table (g.R.Rows.rows c.args.rows.now))
-    (searched_rises c.args.found.now _ (table_rises 0 c.args.table (g.R.Rows.rows c.args.rows.now) c.known.ensures))
+    (searched_rises c.args.found.now _ (table_rises 0 c.args.table (g.R.Rows.rows c.args.rows.now) c.recall_order.ensures))
     c.in-Some.ensures (sym (c.if-shares_key.ensures c.args.table)) _ c.loop-number.invariant
 
 pub loop-number-smaller : goal.loop-number-smaller
@@ -32,7 +32,7 @@ loop-number-smaller g c =
     omega (
       arith,
       scan_above c.loop-number.after _ p c.in-Some.ensures,
-      scan_small c.loop-number.after _ p (searched_rises c.args.found.now _ (table_rises 0 c.args.table (g.R.Rows.rows c.args.rows.now) c.known.ensures)) c.in-Some.ensures,
+      scan_small c.loop-number.after _ p (searched_rises c.args.found.now _ (table_rises 0 c.args.table (g.R.Rows.rows c.args.rows.now) c.recall_order.ensures)) c.in-Some.ensures,
     )
 
 pub loop-number-preserved : goal.loop-number-preserved
@@ -40,7 +40,7 @@ loop-number-preserved g c =
     passes_by (shares_key c.args.nulls c.args.columns.now c.args.row.now) c.args.table c.loop-number.after
     (searched c.args.found.now (table_rows (g.R.Rows.rows c.args.rows.now) c.args.table)) (c.in-Some.number, c.in-Some.values.now)
     (searched_on c.args.found.now c.args.table (g.R.Rows.rows c.args.rows.now))
-    (searched_rises c.args.found.now _ (table_rises 0 c.args.table (g.R.Rows.rows c.args.rows.now) c.known.ensures))
+    (searched_rises c.args.found.now _ (table_rises 0 c.args.table (g.R.Rows.rows c.args.rows.now) c.recall_order.ensures))
     c.in-Some.ensures (sym (c.if-shares_key.ensures c.args.table)) _ c.loop-number.invariant
 
 pub returns : goal.returns

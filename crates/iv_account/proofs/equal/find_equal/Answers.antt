@@ -15,7 +15,7 @@ pub find_among-requires : goal.find_among-requires
 find_among-requires g c =
     are_there (λ (other : List Value). key_of c.args.columns.now other ≡ key_of c.args.columns.now c.values.result.now)
     (table_rows (g.R.Rows.rows c.args.rows.now) c.args.table) c.rows_of_key-found.result
-    (table_rises 0 c.args.table _ c.known.ensures) c.rows_of_key-found.ensures
+    (table_rises 0 c.args.table _ c.recall_order.ensures) c.rows_of_key-found.ensures
 
 pub returns : goal.returns
 returns g c =
@@ -23,5 +23,5 @@ returns g c =
     ∙ first_of_all (shares_key c.args.nulls c.args.columns.now c.args.row.now)
     (λ (other : List Value). key_of c.args.columns.now other ≡ key_of c.args.columns.now c.values.result.now)
     (table_rows (g.R.Rows.rows c.args.rows.now) c.args.table) c.rows_of_key-found.result
-    (table_rises 0 c.args.table _ c.known.ensures) c.rows_of_key-found.ensures
+    (table_rises 0 c.args.table _ c.recall_order.ensures) c.rows_of_key-found.ensures
     (λ other e. shares_same c.args.nulls c.args.columns.now c.args.row.now other e ∙ ap (λ (row : List Value). key_of c.args.columns.now row) (sym c.values.ensures))

@@ -8,7 +8,7 @@ use Rattle.iv_account.proofs.equal.next_row.Goals as goal
 pub next_above-requires : goal.next_above-requires
 next_above-requires g c =
     there_rise c.args.found.now c.in-Some.numbers _
-    c.in-Some.is c.requires (table_rises 0 c.args.table _ c.known.ensures)
+    c.in-Some.is c.requires (table_rises 0 c.args.table _ c.recall_order.ensures)
 
 pub returns-in-Some-next_above : goal.returns-in-Some-next_above
 returns-in-Some-next_above g c =
@@ -16,10 +16,10 @@ returns-in-Some-next_above g c =
     c.scan.ensures
     ∙ ap (λ n. option_map numbered (row_above n rows)) c.saturating_sub.ensures
     ∙ ap (option_map numbered) (next_found c.args.found.now c.in-Some.numbers rows c.args.after (Some c.in-Some-next_above.number)
-    c.in-Some.is c.requires (table_rises 0 c.args.table _ c.known.ensures) c.in-Some-next_above.ensures)
+    c.in-Some.is c.requires (table_rises 0 c.args.table _ c.recall_order.ensures) c.in-Some-next_above.ensures)
 
 pub returns-in-None-next_above : goal.returns-in-None-next_above
 returns-in-None-next_above g c =
     let rows : List StoredRow = table_rows (g.R.Rows.rows c.args.rows.now) c.args.table in
     ap (option_map numbered) (next_found c.args.found.now c.in-Some.numbers rows c.args.after None
-    c.in-Some.is c.requires (table_rises 0 c.args.table _ c.known.ensures) c.in-None-next_above.ensures)
+    c.in-Some.is c.requires (table_rises 0 c.args.table _ c.recall_order.ensures) c.in-None-next_above.ensures)

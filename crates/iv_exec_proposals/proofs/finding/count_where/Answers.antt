@@ -18,14 +18,14 @@ loop-number-init g c = record {
   within = omega arith;
   small = omega arith;
   rest =
-      ap (λ (x : List StoredRow). along (λ n row. row_counted c.args.scope.now c.args.filter.now row) x 0) (above_all 0 0 _ c.known.ensures (omega arith))
+      ap (λ (x : List StoredRow). along (λ n row. row_counted c.args.scope.now c.args.filter.now row) x 0) (above_all 0 0 _ c.recall_order.ensures (omega arith))
       ∙ sym (left_out c.args.scope.now c.args.filter.now (λ r f. f + 1) (table_rows c.args.scope.now.rows c.args.table) c.search-search.result c.search-search.ensures 0);
 }
 
 pub loop-number-smaller : goal.loop-number-smaller
 loop-number-smaller g c =
     let p : ℕ × List Value = (c.in-Some.number, c.in-Some.row.now) in
-    omega (arith, scan_above c.loop-number.after _ p c.in-Some.ensures, scan_small c.loop-number.after _ p c.known.ensures c.in-Some.ensures)
+    omega (arith, scan_above c.loop-number.after _ p c.in-Some.ensures, scan_small c.loop-number.after _ p c.recall_order.ensures c.in-Some.ensures)
 
 pub loop-number-preserved : goal.loop-number-preserved
 loop-number-preserved g c =
@@ -33,9 +33,9 @@ loop-number-preserved g c =
     let up = scan_above c.loop-number.after _ p c.in-Some.ensures in
     record {
       within = omega (arith, up, c.in_ok-found.ensures.grows, c.loop-number.invariant.within);
-      small = scan_small c.loop-number.after _ p c.known.ensures c.in-Some.ensures;
+      small = scan_small c.loop-number.after _ p c.recall_order.ensures c.in-Some.ensures;
       rest = scanned_on (λ n row. row_counted c.args.scope.now c.args.filter.now row) _ c.loop-number.after p _ _ _
-          c.known.ensures c.in-Some.ensures (sym c.in_ok-found.ensures.answer) c.loop-number.invariant.rest;
+          c.recall_order.ensures c.in-Some.ensures (sym c.in_ok-found.ensures.answer) c.loop-number.invariant.rest;
     }
 
 pub returns-in_err-found : goal.returns-in_err-found
@@ -44,7 +44,7 @@ returns-in_err-found g c =
     let step = λ (n : ℕ) (row : List Value). row_counted c.args.scope.now c.args.filter.now row in
     let all : Result ℕ Cause = rows_counted c.args.scope.now c.args.filter.now (table_rows c.args.scope.now.rows c.args.table) in
     let whole : all ≡ Err c.in_err-found.field-0.0 =
-    sym c.loop-number.invariant.rest ∙ scanned step _ c.loop-number.after p _ c.known.ensures c.in-Some.ensures
+    sym c.loop-number.invariant.rest ∙ scanned step _ c.loop-number.after p _ c.recall_order.ensures c.in-Some.ensures
     ∙ ap (λ (r : Result ℕ Cause). and_then r (along step (rows_above c.in-Some.number c.search-search.result))) (sym c.in_err-found.ensures.answer) in
     refused_as c.from_residual.result c.in_err-found.field-0.0 c.from_residual.ensures.1
     ∙ sym (ap (λ (r : Result ℕ Cause). and_then r (λ n. Ok (Int (pos n)))) whole)

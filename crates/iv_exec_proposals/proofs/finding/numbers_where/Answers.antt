@@ -13,24 +13,24 @@ pub loop-number-init : goal.loop-number-init
 loop-number-init g c =
     let step = number_taken c.args.scope.now c.args.filter.now in
     ap (λ (f : List ℕ). along step (rows_above 0 c.search-search.result) f) c.new-found.ensures.items
-    ∙ ap (λ (x : List StoredRow). along step x []) (above_all 0 0 _ c.known.ensures (omega arith))
+    ∙ ap (λ (x : List StoredRow). along step x []) (above_all 0 0 _ c.recall_order.ensures (omega arith))
     ∙ sym (left_out c.args.scope.now c.args.filter.now (λ r f. f ++ r.number ∷ []) (table_rows c.args.scope.now.rows c.args.table) c.search-search.result c.search-search.ensures [])
 
 pub loop-number-smaller : goal.loop-number-smaller
 loop-number-smaller g c =
     let p : ℕ × List Value = (c.in-Some.number, c.in-Some.row.now) in
-    omega (arith, scan_above c.loop-number.after _ p c.in-Some.ensures, scan_small c.loop-number.after _ p c.known.ensures c.in-Some.ensures)
+    omega (arith, scan_above c.loop-number.after _ p c.in-Some.ensures, scan_small c.loop-number.after _ p c.recall_order.ensures c.in-Some.ensures)
 
 pub loop-number-preserved : goal.loop-number-preserved
 loop-number-preserved g c =
     scanned_on (number_taken c.args.scope.now c.args.filter.now) _ c.loop-number.after (c.in-Some.number, c.in-Some.row.now) _ _ _
-    c.known.ensures c.in-Some.ensures c.in_ok-take_number.ensures c.loop-number.invariant
+    c.recall_order.ensures c.in-Some.ensures c.in_ok-take_number.ensures c.loop-number.invariant
 
 pub returns-in_err-take_number : goal.returns-in_err-take_number
 returns-in_err-take_number g c =
     told_on _ c.from_residual.result c.in_err-take_number.field-0.0 _ c.from_residual.ensures.1
     (scanned_refused (number_taken c.args.scope.now c.args.filter.now) _ c.loop-number.after (c.in-Some.number, c.in-Some.row.now) _ _ _
-    c.known.ensures c.in-Some.ensures c.loop-number.invariant c.in_err-take_number.ensures)
+    c.recall_order.ensures c.in-Some.ensures c.loop-number.invariant c.in_err-take_number.ensures)
 
 pub returns : goal.returns
 returns g c = scanned_all (number_taken c.args.scope.now c.args.filter.now) _ c.loop-number.after _ _ c.in_default.ensures c.loop-number.invariant

@@ -7,7 +7,7 @@ use Rattle.iv_exec_proposals.proofs.finding.rows_where.Goals as goal
 pub returns : goal.returns
 returns g c =
     answers_by_numbers_made (λ v. v.items) c.rows_numbered.result (λ (r : StoredRow). r.values) c.args.scope.now c.args.filter.now c.args.table (g.K.ReferencingRows.view c.args.store.now).base.rows
-    c.in_ok-numbers.numbers.items c.as_slice.result.now c.known.ensures c.requires c.in_ok-numbers.ensures c.as_slice.ensures.value c.rows_numbered.ensures
+    c.in_ok-numbers.numbers.items c.as_slice.result.now c.recall_order.ensures c.requires c.in_ok-numbers.ensures c.as_slice.ensures.value c.rows_numbered.ensures
 
 pub returns-in_err-numbers : goal.returns-in_err-numbers
 returns-in_err-numbers g c =

@@ -8,7 +8,7 @@ pub returns : goal.returns
 returns g c =
     answers_by_numbers (λ v. v.items) c.update_numbers.result (update_of c.args.context.now c.args.scope.now c.args.settings.now) c.args.scope.now c.args.filter.now c.args.table
     (g.K.ReferencingRows.view c.args.store.now).base.rows
-    c.in_ok-numbers.numbers.items c.as_slice.result.now c.known.ensures c.requires c.in_ok-numbers.ensures c.as_slice.ensures.value c.update_numbers.ensures
+    c.in_ok-numbers.numbers.items c.as_slice.result.now c.recall_order.ensures c.requires c.in_ok-numbers.ensures c.as_slice.ensures.value c.update_numbers.ensures
 
 pub returns-in_err-numbers : goal.returns-in_err-numbers
 returns-in_err-numbers g c =

@@ -11,7 +11,7 @@ use Rattle.iv_expr.proofs.condition.+truth_in.Goals as goal
 pub exists_in_table-loop-number-init : goal.exists_in_table-loop-number-init
 exists_in_table-loop-number-init g t c =
     let at = λ (row : List Value). truth (within c.args.scope.now row) c.args.cond.now in
-    ap (λ (x : List StoredRow). any_from false (map at (contents x))) (above_all 0 0 _ c.known.ensures (omega arith))
+    ap (λ (x : List StoredRow). any_from false (map at (contents x))) (above_all 0 0 _ c.recall_order.ensures (omega arith))
     ∙ any_is (map at (contents c.search-search.result))
     ∙ sym (any_of_found at (table_rows c.args.scope.now.rows c.args.table) c.search-search.result c.search-search.ensures)
 
@@ -23,18 +23,18 @@ exists_in_transition-loop-change-init g t c =
 pub exists_in_table-loop-number-smaller : goal.exists_in_table-loop-number-smaller
 exists_in_table-loop-number-smaller g t c =
     let p : ℕ × List Value = (c.in-Some.number, c.in-Some.row.now) in
-    omega (arith, scan_above c.loop-number.after _ p c.in-Some.ensures, scan_small c.loop-number.after _ p c.known.ensures c.in-Some.ensures)
+    omega (arith, scan_above c.loop-number.after _ p c.in-Some.ensures, scan_small c.loop-number.after _ p c.recall_order.ensures c.in-Some.ensures)
 
 pub exists_in_table-loop-number-preserved : goal.exists_in_table-loop-number-preserved
 exists_in_table-loop-number-preserved g t c =
     let here = at_row c.args.scope.now _ _ c.in-Some.row.now c.args.cond.now _ _ c.truth_in.ensures c.over.ensures c.ranges_with-ranges.ensures c.in-Ok.is in
     rw c.or_true-found.ensures
-    (sym (scan_step (λ row. truth (within c.args.scope.now row) c.args.cond.now) c.loop-number.found _ c.loop-number.after (c.in-Some.number, c.in-Some.row.now) c.in-Ok.at_row c.known.ensures c.in-Some.ensures here) ∙ c.loop-number.invariant)
+    (sym (scan_step (λ row. truth (within c.args.scope.now row) c.args.cond.now) c.loop-number.found _ c.loop-number.after (c.in-Some.number, c.in-Some.row.now) c.in-Ok.at_row c.recall_order.ensures c.in-Some.ensures here) ∙ c.loop-number.invariant)
 
 pub exists_in_table-returns-in-Err : goal.exists_in_table-returns-in-Err
 exists_in_table-returns-in-Err g t c =
     let here = at_row c.args.scope.now _ _ c.in-Some.row.now c.args.cond.now _ _ c.truth_in.ensures c.over.ensures c.ranges_with-ranges.ensures c.in-Err.is in
-    sym (scan_fault (λ row. truth (within c.args.scope.now row) c.args.cond.now) c.loop-number.found _ c.loop-number.after (c.in-Some.number, c.in-Some.row.now) c.in-Err.fault c.known.ensures c.in-Some.ensures here) ∙ c.loop-number.invariant
+    sym (scan_fault (λ row. truth (within c.args.scope.now row) c.args.cond.now) c.loop-number.found _ c.loop-number.after (c.in-Some.number, c.in-Some.row.now) c.in-Err.fault c.recall_order.ensures c.in-Some.ensures here) ∙ c.loop-number.invariant
 
 pub exists_in_table-returns : goal.exists_in_table-returns
 exists_in_table-returns g t c =

@@ -15,7 +15,7 @@ returns-then-may_be g c =
     c.over-inside.ensures ∙ ap (λ (l : List (List Value)). record { ranges = l; frame = c.args.scope.now.frame; rows = c.args.scope.now.rows }) c.ranges_with-ranges.ensures in
     subst (λ (l : List StoredRow). LeadsToSome (seen c.args.scope.now c.args.cond.now) (table_rows l c.args.table) c.holders.result) c.requires
     (leads_some c.args.scope.now c.over-inside.result rows c.in_ok-known.known.kinds.now c.args.cond.now c.in-Ok.asked.items c.ask.new.asked.items c.holders.result same
-    (table_rises 0 c.args.table _ c.known.ensures) c.in_ok-known.ensures (subst (λ (l : List (List Kind)). IsNeverRefused c.over-inside.result l c.args.cond.now) c.new.ensures (c.is_never_refused.ensures c.if-not-is_never_refused.false)) c.in-Ok.ensures (c.in-Ok-ask.ensures.asks c.if-may_be.true)
+    (table_rises 0 c.args.table _ c.recall_order.ensures) c.in_ok-known.ensures (subst (λ (l : List (List Kind)). IsNeverRefused c.over-inside.result l c.args.cond.now) c.new.ensures (c.is_never_refused.ensures c.if-not-is_never_refused.false)) c.in-Ok.ensures (c.in-Ok-ask.ensures.asks c.if-may_be.true)
     (subst (λ (l : List Value). IfSome c.holders.result (λ h. AreHolders l rows h)) c.as_slice.ensures.value c.holders.ensures))
 
 pub returns : goal.returns

@@ -19,9 +19,9 @@ returns-in_default g c =
 pub loop-items-preserved : goal.loop-items-preserved
 loop-items-preserved g c =
     amid_next g.T.ParseSome.found_some c.args.cursor.now c.loop-items.cursor c.parse_some.new.cursor c.in-Some.item c.loop-items.items c.push.new.self
-    c.takes_a_word.ensures c.loop-items.invariant (subst (λ x. Reads g.T.ParseSome.found_some c.loop-items.cursor (Ok x) c.parse_some.new.cursor) c.in-Some.is c.in_ok-item.ensures) c.in_ok-push.ensures.ok
+    c.recall_word.ensures c.loop-items.invariant (subst (λ x. Reads g.T.ParseSome.found_some c.loop-items.cursor (Ok x) c.parse_some.new.cursor) c.in-Some.is c.in_ok-item.ensures) c.in_ok-push.ensures.ok
 
 pub loop-items-smaller : goal.loop-items-smaller
 loop-items-smaller g c =
-    amid_fewer g.T.ParseSome.found_some c.loop-items.cursor c.parse_some.new.cursor c.in-Some.item c.takes_a_word.ensures
+    amid_fewer g.T.ParseSome.found_some c.loop-items.cursor c.parse_some.new.cursor c.in-Some.item c.recall_word.ensures
     (subst (λ x. Reads g.T.ParseSome.found_some c.loop-items.cursor (Ok x) c.parse_some.new.cursor) c.in-Some.is c.in_ok-item.ensures)

@@ -6,7 +6,7 @@ use Rattle.iv_store_faults.proofs.Filled.{searching_begins, searching_goes_on, s
 use Rattle.iv_store_faults.proofs.filling.first_violating.Goals as goal
 
 pub loop-number-init : goal.loop-number-init
-loop-number-init g c = searching_begins _ c.args.constraint.now c.args.id (reference_at c.args.references.now 0) c.args.groups.now c.known.ensures
+loop-number-init g c = searching_begins _ c.args.constraint.now c.args.id (reference_at c.args.references.now 0) c.args.groups.now c.recall_order.ensures
 
 pub is_violating-requires : goal.is_violating-requires
 is_violating-requires g c = λ r e. subst (λ gs. r.named < length gs) (sym c.loop-number.invariant.kept) (c.requires r e)
@@ -14,17 +14,17 @@ is_violating-requires g c = λ r e. subst (λ gs. r.named < length gs) (sym c.lo
 pub loop-number-smaller : goal.loop-number-smaller
 loop-number-smaller g c =
     let p : ℕ × List Value = (c.in-Some.number, c.in-Some.row.now) in
-    omega (arith, scan_above c.loop-number.after _ p c.in-Some.ensures, scan_small c.loop-number.after _ p (table_rises 0 c.args.constraint.now.table _ c.known.ensures) c.in-Some.ensures)
+    omega (arith, scan_above c.loop-number.after _ p c.in-Some.ensures, scan_small c.loop-number.after _ p (table_rises 0 c.args.constraint.now.table _ c.recall_order.ensures) c.in-Some.ensures)
 
 pub loop-number-preserved : goal.loop-number-preserved
 loop-number-preserved g c =
     searching_goes_on _ c.args.constraint.now c.args.id c.loop-number.after (reference_at c.args.references.now 0) (c.in-Some.number, c.in-Some.row.now) c.args.groups.now c.loop-number.groups c.is_violating.new.groups
-    c.is_violating.result c.known.ensures c.in-Some.ensures c.loop-number.invariant c.is_violating.ensures.violating c.is_violating.ensures.kept c.is_violating.ensures.grows c.if-is_violating.false
+    c.is_violating.result c.recall_order.ensures c.in-Some.ensures c.loop-number.invariant c.is_violating.ensures.violating c.is_violating.ensures.kept c.is_violating.ensures.grows c.if-is_violating.false
 
 pub returns-then-is_violating-clause-first : goal.returns-then-is_violating-clause-first
 returns-then-is_violating-clause-first g c = λ constraints all at is shows.
     searching_found _ c.args.constraint.now c.args.id c.loop-number.after (reference_at c.args.references.now 0) (c.in-Some.number, c.in-Some.row.now) c.args.groups.now c.loop-number.groups
-    c.is_violating.result c.known.ensures c.in-Some.ensures c.loop-number.invariant c.is_violating.ensures.violating c.if-is_violating.true constraints
+    c.is_violating.result c.recall_order.ensures c.in-Some.ensures c.loop-number.invariant c.is_violating.ensures.violating c.if-is_violating.true constraints
     (record { named = all; at = at; is = is; shows = shows })
 
 pub returns-then-is_violating-clause-kept : goal.returns-then-is_violating-clause-kept

@@ -7,4 +7,4 @@ pub returns-clause-place : goal.returns-clause-place
 returns-clause-place c = c.find.ensures.place ∙ place_shown (groups_of c.args.groups.now.groups c.args.id) c.args.key.now
 
 pub returns-clause-once : goal.returns-clause-once
-returns-clause-once c = once (groups_of c.args.groups.now.groups c.args.id) (c.are_kept.ensures.apart c.args.id)
+returns-clause-once c = once (groups_of c.args.groups.now.groups c.args.id) (c.recall_groups.ensures.apart c.args.id)

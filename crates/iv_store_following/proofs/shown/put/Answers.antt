@@ -9,7 +9,7 @@ returns-clause-place c = sym (place_shown (groups_of c.args.groups.now.groups c.
 pub returns-clause-rows : goal.returns-clause-rows
 returns-clause-rows c =
     put_shown c.args.groups.now.groups c.put_back.new.self.groups c.args.id c.args.key.now c.requires.known c.args.row c.put_back.result.place
-    (c.are_kept.ensures.rising c.args.id) c.put_back.ensures.place c.put_back.ensures.groups
+    (c.recall_groups.ensures.rising c.args.id) c.put_back.ensures.place c.put_back.ensures.groups
 
 pub returns-clause-sizes : goal.returns-clause-sizes
 returns-clause-sizes c = put_sizes c.args.groups.now.groups c.put_back.new.self.groups c.args.id c.args.key.now c.requires.known c.args.row c.put_back.ensures.groups

@@ -12,7 +12,7 @@ returns-clause-place c = sym (place_shown (groups_of c.args.groups.now.groups c.
 pub returns-clause-rows : goal.returns-clause-rows
 returns-clause-rows c =
     taken_shown c.args.groups.now.groups c.remove.new.self.groups c.args.id c.args.key.now c.requires.known c.args.row c.remove.result.place
-    (c.are_kept.ensures.rising c.args.id) c.remove.ensures.place c.remove.ensures.groups
+    (c.recall_groups.ensures.rising c.args.id) c.remove.ensures.place c.remove.ensures.groups
 
 pub returns-clause-room : goal.returns-clause-room
 returns-clause-room c = taken_room c.args.groups.now.groups c.remove.new.self.groups c.args.id c.args.key.now c.requires.known c.args.row c.remove.ensures.groups

@@ -12,10 +12,10 @@ returns-then-count_groups-eq0-clause-moved c = λ key.
     stays_moved c.args.constraint.now c.args.change.now (shown_of c.args.groups.now.groups c.args.id) key
     (none_kept c.args.change.now c.args.constraint.now groups
     (none_counted groups c.count_groups.result c.count_groups.ensures.count c.if-count_groups-eq0.true) c.requires.ready)
-    c.requires.ready.present (c.rows_rise.ensures c.args.id key)
+    c.requires.ready.present (c.recall_order.ensures c.args.id key)
 
 pub returns-then-is_one_key-clause-moved : goal.returns-then-is_one_key-clause-moved
 returns-then-is_one_key-clause-moved c = λ key.
     stays_moved c.args.constraint.now c.args.change.now (shown_of c.args.groups.now.groups c.args.id) key
     ((λ i. is_one_key (sym c.old_key-old.ensures i) (sym c.new_key-new.ensures i)) ∙ sym c.is_one_key.ensures ∙ c.if-is_one_key.true)
-    c.requires.ready.present (c.rows_rise.ensures c.args.id key)
+    c.requires.ready.present (c.recall_order.ensures c.args.id key)

@@ -17,11 +17,11 @@ put_back-requires-clause-slot c =
 pub put_back-requires-clause-room : goal.put_back-requires-clause-room
 put_back-requires-clause-room c =
     undone_room (live_rows c.args.slots.now.slots) c.args.slots.now.numbers c.args.journal.now c.pop.new.self c.in-Some.change c.in-Some.ensures.last
-    c.known.ensures.files.covers c.requires.made c.requires.room
+    c.recall_order.ensures.files.covers c.requires.made c.requires.room
 
 pub returns-in-Some-clause-rows : goal.returns-in-Some-clause-rows
 returns-in-Some-clause-rows c =
-    undone_rows c.args.slots.now.slots c.put_back.new.self.slots c.args.journal.now c.pop.new.self c.in-Some.change c.known.ensures.files.rises
+    undone_rows c.args.slots.now.slots c.put_back.new.self.slots c.args.journal.now c.pop.new.self c.in-Some.change c.recall_order.ensures.files.rises
     c.in-Some.ensures.last c.put_back.ensures.slots
 
 pub returns-in-Some-clause-slots : goal.returns-in-Some-clause-slots
@@ -32,4 +32,4 @@ returns-in-Some-clause-slots c =
 pub returns-in-Some-clause-room : goal.returns-in-Some-clause-room
 returns-in-Some-clause-room c =
     room_left (live_rows c.args.slots.now.slots) c.args.slots.now.numbers c.put_back.new.self.numbers c.args.journal.now c.pop.new.self c.in-Some.change
-    c.in-Some.ensures.last c.known.ensures.files.covers c.requires.made c.put_back.ensures.numbers c.requires.room
+    c.in-Some.ensures.last c.recall_order.ensures.files.covers c.requires.made c.put_back.ensures.numbers c.requires.room

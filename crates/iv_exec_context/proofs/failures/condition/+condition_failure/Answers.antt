@@ -21,7 +21,7 @@ in_table-loop-number-init g t c =
     let s = c.args.scope.now in
     let f = λ (row : List Value). if_at_fault (truth (within s row) c.args.condition.now) (condition_failure (within s row) c.args.condition.now) in
     ap (λ (x : List StoredRow). first_of f (contents x))
-    (above_all 0 0 (table_rows s.rows c.args.table) (table_rises 0 c.args.table s.rows c.known.ensures) (omega arith))
+    (above_all 0 0 (table_rows s.rows c.args.table) (table_rises 0 c.args.table s.rows c.recall_order.ensures) (omega arith))
 
 pub in_table-returns-in-Some-at_values : goal.in_table-returns-in-Some-at_values
 in_table-returns-in-Some-at_values g t c =
@@ -30,7 +30,7 @@ in_table-returns-in-Some-at_values g t c =
     let p : ℕ × List Value = (c.in-Some.number, c.in-Some.row.now) in
     let f = λ (row : List Value). if_at_fault (truth (within s row) c.args.condition.now) (condition_failure (within s row) c.args.condition.now) in
     list_comes f (contents (rows_above c.loop-number.after rows)) (contents (rows_above c.in-Some.number rows)) c.in-Some.row.now _
-    (values_scanned c.loop-number.after rows p (table_rises 0 c.args.table s.rows c.known.ensures) c.in-Some.ensures) c.loop-number.invariant
+    (values_scanned c.loop-number.after rows p (table_rises 0 c.args.table s.rows c.recall_order.ensures) c.in-Some.ensures) c.loop-number.invariant
     c.in-Some-at_values.failure (sym c.in-Some-at_values.ensures)
 
 pub in_table-loop-number-smaller : goal.in_table-loop-number-smaller
@@ -39,7 +39,7 @@ in_table-loop-number-smaller g t c =
     omega (
       arith,
       scan_above c.loop-number.after _ p c.in-Some.ensures,
-      scan_small c.loop-number.after _ p (table_rises 0 c.args.table c.args.scope.now.rows c.known.ensures) c.in-Some.ensures,
+      scan_small c.loop-number.after _ p (table_rises 0 c.args.table c.args.scope.now.rows c.recall_order.ensures) c.in-Some.ensures,
     )
 
 pub in_table-loop-number-preserved : goal.in_table-loop-number-preserved
@@ -49,7 +49,7 @@ in_table-loop-number-preserved g t c =
     let p : ℕ × List Value = (c.in-Some.number, c.in-Some.row.now) in
     let f = λ (row : List Value). if_at_fault (truth (within s row) c.args.condition.now) (condition_failure (within s row) c.args.condition.now) in
     list_passes f (contents (rows_above c.loop-number.after rows)) (contents (rows_above c.in-Some.number rows)) c.in-Some.row.now _
-    (values_scanned c.loop-number.after rows p (table_rises 0 c.args.table s.rows c.known.ensures) c.in-Some.ensures) c.loop-number.invariant
+    (values_scanned c.loop-number.after rows p (table_rises 0 c.args.table s.rows c.recall_order.ensures) c.in-Some.ensures) c.loop-number.invariant
     (sym c.in-None.ensures)
 
 pub in_table-returns : goal.in_table-returns

@@ -7,12 +7,12 @@ use Rattle.iv_exec_context.proofs.Firsts.{scan_begins, scan_comes, scan_ends, sc
 use Rattle.iv_exec_context.proofs.failures.query.selections_in_table.Goals as goal
 
 pub loop-number-init : goal.loop-number-init
-loop-number-init g c = scan_begins (if_true_at c.args.scope.now c.args.filter.now (selection_failure c.args.scope.now c.args.outputs.now)) c.args.table c.args.scope.now.rows c.known.ensures
+loop-number-init g c = scan_begins (if_true_at c.args.scope.now c.args.filter.now (selection_failure c.args.scope.now c.args.outputs.now)) c.args.table c.args.scope.now.rows c.recall_order.ensures
 
 pub returns-in-Some-2 : goal.returns-in-Some-2
 returns-in-Some-2 g c =
     let p : ℕ × List Value = (c.in-Some.number, c.in-Some.values.now) in
-    scan_comes (if_true_at c.args.scope.now c.args.filter.now (selection_failure c.args.scope.now c.args.outputs.now)) c.args.table c.loop-number.after c.args.scope.now.rows p c.known.ensures c.in-Some.ensures _ c.loop-number.invariant
+    scan_comes (if_true_at c.args.scope.now c.args.filter.now (selection_failure c.args.scope.now c.args.outputs.now)) c.args.table c.loop-number.after c.args.scope.now.rows p c.recall_order.ensures c.in-Some.ensures _ c.loop-number.invariant
     c.in-Some-2.failure (sym c.in_ok-failure.ensures ∙ c.in-Some-2.is)
 
 pub loop-number-smaller : goal.loop-number-smaller
@@ -21,13 +21,13 @@ loop-number-smaller g c =
     omega (
       arith,
       scan_above c.loop-number.after _ p c.in-Some.ensures,
-      scan_small c.loop-number.after _ p (table_rises 0 c.args.table c.args.scope.now.rows c.known.ensures) c.in-Some.ensures,
+      scan_small c.loop-number.after _ p (table_rises 0 c.args.table c.args.scope.now.rows c.recall_order.ensures) c.in-Some.ensures,
     )
 
 pub loop-number-preserved : goal.loop-number-preserved
 loop-number-preserved g c =
     let p : ℕ × List Value = (c.in-Some.number, c.in-Some.values.now) in
-    scan_passes (if_true_at c.args.scope.now c.args.filter.now (selection_failure c.args.scope.now c.args.outputs.now)) c.args.table c.loop-number.after c.args.scope.now.rows p c.known.ensures c.in-Some.ensures _ c.loop-number.invariant
+    scan_passes (if_true_at c.args.scope.now c.args.filter.now (selection_failure c.args.scope.now c.args.outputs.now)) c.args.table c.loop-number.after c.args.scope.now.rows p c.recall_order.ensures c.in-Some.ensures _ c.loop-number.invariant
     (sym c.in_ok-failure.ensures ∙ c.in-None.is)
 
 pub returns : goal.returns

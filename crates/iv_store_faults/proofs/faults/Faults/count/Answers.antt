@@ -16,5 +16,5 @@ count-requires c = record {
 pub returns : goal.returns
 returns c = λ rows shows.
     let s = subst (λ w. IsShownBy rows w c.args.groups.now) (sym c.self.view_is) shows in
-    c.count.ensures c.self.inside.constraints.items (omega (arith, c.self.invariant.violating_count)) (rows_apart c.self.inside.constraints.items c.args.groups.now c.self.inside.violating rows c.keys_once.ensures s) s.flagged ∙ ap (λ faults. min (length faults) (2 ^ 64 - 1)) (kept_scan c.self.inside.constraints.items c.args.groups.now c.self.inside.violating rows (is_chosen c.args.modes.now.modes c.args.which) c.self.invariant.named c.keys_once.ensures s)
+    c.count.ensures c.self.inside.constraints.items (omega (arith, c.self.invariant.violating_count)) (rows_apart c.self.inside.constraints.items c.args.groups.now c.self.inside.violating rows c.recall_keys.ensures s) s.flagged ∙ ap (λ faults. min (length faults) (2 ^ 64 - 1)) (kept_scan c.self.inside.constraints.items c.args.groups.now c.self.inside.violating rows (is_chosen c.args.modes.now.modes c.args.which) c.self.invariant.named c.recall_keys.ensures s)
     ∙ ap (λ w. min (length (scan rows w.constraints (is_chosen c.args.modes.now.modes c.args.which))) (2 ^ 64 - 1)) c.self.view_is

@@ -13,5 +13,5 @@ first-requires-clause-within c = have_groups_of c.self.inside.constraints.items 
 pub returns : goal.returns
 returns c = λ rows shows.
     let s = subst (λ w. IsShownBy rows w c.args.groups.now) (sym c.self.view_is) shows in
-    c.first.ensures c.self.inside.constraints.items (omega (arith, c.self.invariant.violating_count)) s.flagged ∙ ap first (kept_scan c.self.inside.constraints.items c.args.groups.now c.self.inside.violating rows (is_chosen c.args.modes.now.modes c.args.which) c.self.invariant.named c.keys_once.ensures s)
+    c.first.ensures c.self.inside.constraints.items (omega (arith, c.self.invariant.violating_count)) s.flagged ∙ ap first (kept_scan c.self.inside.constraints.items c.args.groups.now c.self.inside.violating rows (is_chosen c.args.modes.now.modes c.args.which) c.self.invariant.named c.recall_keys.ensures s)
     ∙ ap (λ w. first (scan rows w.constraints (is_chosen c.args.modes.now.modes c.args.which))) c.self.view_is

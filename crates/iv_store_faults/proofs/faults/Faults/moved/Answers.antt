@@ -8,7 +8,7 @@ use Rattle.iv_store_faults.proofs.faults.Faults.moved.Goals as goal
 
 pub returns-clause-ok : goal.returns-clause-ok
 returns-clause-ok c = λ rows holds shows.
-    shown_after c.self.inside.constraints.items c.args.change.now 7 c.args.groups.now c.moved.new.groups c.self.inside.violating c.moved.new.violating rows c.self.invariant.named c.counted_keys_once.ensures
+    shown_after c.self.inside.constraints.items c.args.change.now 7 c.args.groups.now c.moved.new.groups c.self.inside.violating c.moved.new.violating rows c.self.invariant.named c.recall_counted_keys.ensures
     (subst (λ cs. Followed cs c.args.change.now 7 c.args.groups.now c.moved.new.groups c.self.inside.violating c.moved.new.violating) c.as_slice-2.ensures.value c.in_ok-moved.ensures.ok)
     holds (subst (λ w. IsShownBy rows w c.args.groups.now) (sym c.self.view_is) shows)
 

@@ -14,7 +14,7 @@ returns-clause-shown c = λ rows s shows none.
     let seen = c.self.view_is in
     subst (λ (cs : List Constraint). IsShownBy rows (record { constraints = cs; violating = c.take_up.new.violating }) c.args.groups.now) (sym c.in_ok-take_up.ensures.ok)
     (shown_more olds c.args.more.now c.args.groups.now c.self.inside.violating c.take_up.new.violating rows c.self.invariant.named
-    (subst (λ (w : Watching). AllNamed (w.constraints ++ c.args.more.now)) (sym seen) c.requires.named) c.keys_once.ensures c.self.invariant.violating_count c.take_up.ensures.stay
+    (subst (λ (w : Watching). AllNamed (w.constraints ++ c.args.more.now)) (sym seen) c.requires.named) c.recall_keys.ensures c.self.invariant.violating_count c.take_up.ensures.stay
     (subst (λ w. IsShownBy rows w c.args.groups.now) (sym seen) s)
     (subst (λ (w : Watching). Show rows (w.constraints ++ c.args.more.now) (shown c.args.groups.now.groups)) (sym seen) shows) none)
 

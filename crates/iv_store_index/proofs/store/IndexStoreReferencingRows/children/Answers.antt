@@ -12,7 +12,7 @@ pub returns-clause-rising : goal.returns-clause-rising
 returns-clause-rising c =
     let s = c.self.inside in
     let lent = c.counted.result.now in
-    if_ok c.children.result (λ v. v.items) s.versions.rows c.args.key.now (reference_at c.constraints.result.now c.place.result) c.known.ensures
+    if_ok c.children.result (λ v. v.items) s.versions.rows c.args.key.now (reference_at c.constraints.result.now c.place.result) c.recall_order.ensures
     (if_at c.children.result (λ (rows : List StoredRow). Show rows c.constraints.result.now (shown lent.groups))
     (λ v rows. v.items ≡ numbers_by rows c.args.key.now (reference_at c.constraints.result.now c.place.result)) s.versions.rows
     (subst (λ (g : Contents). Show s.versions.rows c.constraints.result.now (shown g.groups)) (sym c.counted.ensures.value)

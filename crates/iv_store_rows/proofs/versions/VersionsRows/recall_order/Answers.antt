@@ -2,7 +2,7 @@ use Rattle.std.proofs.Common.{subst}
 use Rattle.iv_expr.specs.Scopes.{Rises}
 use Rattle.iv_store_rows.specs.Histories.{History, history_of}
 use Rattle.iv_store_rows.proofs.Histories.{rows_rise}
-use Rattle.iv_store_rows.proofs.versions.VersionsRows.known.Goals as goal
+use Rattle.iv_store_rows.proofs.versions.VersionsRows.recall_order.Goals as goal
 
 pub returns : goal.returns
 returns c =

@@ -1,4 +1,4 @@
-use Rattle.iv_store_groups.proofs.indexes.kept.Goals as goal
+use Rattle.iv_store_groups.proofs.indexes.recall_groups.Goals as goal
 
 pub returns : goal.returns
 returns c = record {
