@@ -12,7 +12,8 @@ use crate::texts::{constraint_named, signal_of, trigger_named};
 use iv_catalogue::{Catalogue, Cause, ConstraintId, Refusal, TriggerId};
 use iv_explain::write_explained_line;
 use iv_print::{
-    DeviceFault, Sink, Std, cause_name, constraint_of, trigger_of, write_all, write_number,
+    DeviceFault, Sink, Std, cause_name, constraint_of, trigger_of, write_all, write_nothing,
+    write_number,
 };
 use iv_session::Answer;
 use std::alloc::Global;
@@ -47,7 +48,7 @@ fn write_constraint<W: Sink>(
             b", constraint ",
             constraint_named(catalogue, Some(id)),
         ),
-        None => write_all(sink, b""),
+        None => write_nothing(sink),
     }
 }
 
@@ -55,7 +56,7 @@ fn write_row<W: Sink>(sink: &mut W, row: u64) -> Result<(), DeviceFault>
     ensures { Writes (W.state sink.old) (W.state sink.new) result (row_part row) }
 {
     if row == 0 {
-        write_all(sink, b"")
+        write_nothing(sink)
     } else {
         write_count(sink, b", row ", row)
     }
@@ -70,7 +71,7 @@ fn write_trigger<W: Sink>(
 {
     match id {
         Some(id) => write_part(sink, b", trigger ", trigger_named(catalogue, Some(id))),
-        None => write_all(sink, b""),
+        None => write_nothing(sink),
     }
 }
 
@@ -83,7 +84,7 @@ fn write_signal<W: Sink>(
 {
     match cause {
         Cause::Signal(_, _) => write_part(sink, b": ", signal_of(catalogue, cause)),
-        _ => write_all(sink, b""),
+        _ => write_nothing(sink),
     }
 }
 
@@ -91,7 +92,7 @@ fn write_name<W: Sink>(sink: &mut W, line: &[u8]) -> Result<(), DeviceFault>
     ensures { Writes (W.state sink.old) (W.state sink.new) result (name_part line.now) }
 {
     match line {
-        [] => write_all(sink, b""),
+        [] => write_nothing(sink),
         [_, rest @ ..] => {
             let end = rest.len().saturating_sub(1);
             write_part(sink, b": ", &rest[end.min(1)..end])
@@ -187,7 +188,7 @@ fn write_name_line<W: Sink>(
             statement,
             &refusal.cause,
         ),
-        None => write_all(sink, b""),
+        None => write_nothing(sink),
     }
 }
 

@@ -8,7 +8,9 @@ ghost use Rattle.iv_syntax.specs.declared.statement.Statement.TheVariants as sta
 
 use crate::expressions::tell_expression;
 use iv_catalogue::{Catalogue, Column};
-use iv_print::{DeviceFault, Format, Sink, tell, write_all, write_json_text, write_member};
+use iv_print::{
+    DeviceFault, Format, Sink, tell, write_all, write_json_text, write_member, write_nothing,
+};
 use iv_syntax::{Expression, Name, Select, SelectList, Statement};
 
 fn own_name(expression: &Expression) -> Option<&str>
@@ -119,7 +121,7 @@ fn write_names<W: Sink>(
         (listed_in format (map (λ c. c.name) columns.now)) }
 {
     match columns {
-        [] => write_all(writer, b""),
+        [] => write_nothing(writer),
         [column, more @ ..] => {
             write_name(writer, format, column.name.as_str().as_bytes())?;
             write_more_names(writer, format, more)
@@ -167,7 +169,7 @@ fn write_outputs<W: Sink>(
         (listed_in format (map output_text expressions.now)) }
 {
     match expressions {
-        [] => write_all(writer, b""),
+        [] => write_nothing(writer),
         [expression, more @ ..] => {
             write_output(writer, format, expression)?;
             write_more_outputs(writer, format, more)
@@ -232,7 +234,7 @@ pub fn write_columns_line<W: Sink>(
 {
     match statement {
         Statement::Select(query) => write_query_line(writer, catalogue, query),
-        _ => write_all(writer, b""),
+        _ => write_nothing(writer),
     }
 }
 
@@ -262,6 +264,6 @@ pub fn write_columns_member<W: Sink>(
 {
     match statement {
         Statement::Select(query) => write_query_member(writer, catalogue, query),
-        _ => write_all(writer, b""),
+        _ => write_nothing(writer),
     }
 }

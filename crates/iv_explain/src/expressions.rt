@@ -7,7 +7,8 @@ ghost use Rattle.iv_explain.specs.Expressions.{expression_text, further_name, li
 ghost use Rattle.iv_print.specs.Spelled.{spelled};
 
 use iv_print::{
-    DeviceFault, Format, Sink, tell, tell_both, tell_number, tell_number_between, tell_quoted,
+    DeviceFault, Format, Sink, tell, tell_both, tell_nothing, tell_number, tell_number_between,
+    tell_quoted,
 };
 use iv_syntax::{ColumnName, ColumnType, Expression, Literal, Name, Sign};
 
@@ -21,7 +22,7 @@ fn tell_qualifier<W: Sink>(
 {
     match qualifier {
         Some(qualifier) => tell_both(writer, format, qualifier.as_str().as_bytes(), b"."),
-        None => tell(writer, format, b""),
+        None => tell_nothing(writer, format),
     }
 }
 
@@ -103,7 +104,7 @@ fn tell_sign_before<W: Sink>(
 {
     match sign {
         Some(sign) => tell_sign(writer, format, sign),
-        None => tell(writer, format, b""),
+        None => tell_nothing(writer, format),
     }
 }
 
@@ -202,7 +203,7 @@ pub fn tell_names<W: Sink>(
         (spelled format (names_text names.now)) }
 {
     match names {
-        [] => tell(writer, format, b""),
+        [] => tell_nothing(writer, format),
         [name, others @ ..] => tell_listed(writer, format, name, others),
     }
 }

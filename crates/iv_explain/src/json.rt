@@ -11,7 +11,7 @@ use crate::explaining::{Explanation, Why, explained};
 use crate::json_name::write_json_fault;
 use crate::reasons::tell_why;
 use iv_catalogue::{Catalogue, Cause};
-use iv_print::{DeviceFault, Format, Sink, write_all, write_member};
+use iv_print::{DeviceFault, Format, Sink, write_all, write_member, write_nothing};
 use iv_resolve_name_faults::NameFault;
 use iv_syntax::Statement;
 use std::alloc::Global;
@@ -67,7 +67,7 @@ fn write_if_told<W: Sink>(
 {
     match explanation {
         Some(explanation) => write_explanation(writer, explanation),
-        None => write_all(writer, b""),
+        None => write_nothing(writer),
     }
 }
 

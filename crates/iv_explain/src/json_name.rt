@@ -12,7 +12,7 @@ ghost use Rattle.iv_explain.specs.JsonNames.{fault_key, generated_parts, item_me
 use itoa::Buffer;
 use iv_print::{
     DeviceFault, Sink, write_all, write_json_bytes, write_json_text, write_key, write_member,
-    write_text_member,
+    write_nothing, write_text_member,
 };
 use iv_resolve_name_faults::{NameFault, NamedItem};
 
@@ -33,7 +33,7 @@ fn write_range<W: Sink>(writer: &mut W, range: Option<&str>) -> Result<(), Devic
 {
     match range {
         Some(range) => write_text_member(writer, b"range", range.as_bytes()),
-        None => write_all(writer, b""),
+        None => write_nothing(writer),
     }
 }
 

@@ -7,7 +7,7 @@ ghost use Rattle.iv_explain.specs.Seen.{explanation_seen};
 use crate::explaining::{Explanation, explained};
 use crate::reasons::tell_explanation;
 use iv_catalogue::{Catalogue, Cause};
-use iv_print::{DeviceFault, Format, Sink, write_all};
+use iv_print::{DeviceFault, Format, Sink, write_all, write_nothing};
 use iv_syntax::Statement;
 use std::alloc::Global;
 
@@ -41,7 +41,7 @@ fn write_line<W: Sink>(
 {
     match explanation {
         Some(explanation) => write_told(writer, explanation),
-        None => write_all(writer, b""),
+        None => write_nothing(writer),
     }
 }
 

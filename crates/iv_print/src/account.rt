@@ -16,7 +16,7 @@ use crate::failure::write_failure;
 use crate::outcome::{write_borrowed, write_name, write_row_number, write_trigger, write_values};
 use crate::rule::write_described;
 use crate::way::{depth_after, write_limit_line};
-use crate::write::{write_all, write_number};
+use crate::write::{write_all, write_nothing, write_number};
 use iv_account::{Entry, RowAction, SkippedView, TriggerView};
 use iv_catalogue::{
     Catalogue, Cause, Column, Constraint, ConstraintId, ForeignKey, Refusal, Rule, Table, TriggerId,
@@ -53,7 +53,7 @@ pub(crate) fn write_table<W: Sink>(sink: &mut W, table: Option<&Table>) -> Resul
 {
     match table {
         Some(table) => write_all(sink, table.name.as_str().as_bytes()),
-        None => write_all(sink, b""),
+        None => write_nothing(sink),
     }
 }
 
@@ -63,7 +63,7 @@ fn write_column<W: Sink>(sink: &mut W, columns: &[Column], column: u32) -> Resul
 {
     match columns.get(column as usize) {
         Some(column) => write_all(sink, column.name.as_str().as_bytes()),
-        None => write_all(sink, b""),
+        None => write_nothing(sink),
     }
 }
 
@@ -78,7 +78,7 @@ pub(crate) fn write_column_in<W: Sink>(
 {
     match table {
         Some(table) => write_column(sink, table.columns.as_slice(), column),
-        None => write_all(sink, b""),
+        None => write_nothing(sink),
     }
 }
 
@@ -118,7 +118,7 @@ pub(crate) fn write_side<W: Sink>(
             write_all(sink, words)?;
             write_listed(sink, row.values())
         }
-        None => write_all(sink, b""),
+        None => write_nothing(sink),
     }
 }
 
@@ -367,7 +367,7 @@ fn write_columns<W: Sink>(sink: &mut W, columns: &[u32], row: &[Value]) -> Resul
         (values_text (key_of columns.now row.now)) }
 {
     match columns {
-        [] => write_all(sink, b""),
+        [] => write_nothing(sink),
         [column, more @ ..] => {
             write_borrowed(sink, value_at(row, *column))?;
             write_more_columns(sink, more, row)
@@ -527,7 +527,7 @@ fn write_constraint_rule<W: Sink>(
 {
     match constraint {
         Some(constraint) => write_rule(sink, catalogue, outcome, row, others, constraint),
-        None => write_all(sink, b""),
+        None => write_nothing(sink),
     }
 }
 
@@ -544,7 +544,7 @@ pub(crate) fn write_fault_rows<W: Sink>(
         (slice_get catalogue.now.constraints constraint) rows.now) }
 {
     match rows {
-        [] => write_all(sink, b""),
+        [] => write_nothing(sink),
         [row, others @ ..] => {
             let constraint = catalogue.constraint(constraint);
             write_numbered(sink, catalogue, row.table, row.number)?;
@@ -600,7 +600,7 @@ fn write_entry<W: Sink>(
         Entry::Ran(id, seen) => write_ran(sink, catalogue, depth, *id, seen),
         Entry::Skipped(id, seen) => write_skipped(sink, catalogue, depth, *id, seen),
         Entry::Began(place) => write_began(sink, depth, *place, ends_next(further)),
-        Entry::Ended => write_all(sink, b""),
+        Entry::Ended => write_nothing(sink),
         Entry::Faulted(fault, rows) => write_fault(
             sink,
             catalogue,

@@ -8,7 +8,7 @@ ghost use Rattle.iv_print.specs.Writing.{Writes};
 
 use crate::device::{DeviceFault, Sink};
 use crate::format::Format;
-use crate::spelled::tell;
+use crate::spelled::{tell, tell_nothing};
 use crate::spelled_value::{tell_borrowed, tell_value};
 use iv_catalogue::Column;
 use iv_expr::{Comparison, Cond, Expr};
@@ -158,7 +158,7 @@ fn tell_column<W: Sink>(
     match shown {
         Shown::Names => match columns.get(place as usize) {
             Some(column) => tell(writer, format, column.name.as_str().as_bytes()),
-            None => tell(writer, format, b""),
+            None => tell_nothing(writer, format),
         },
         Shown::Values => tell_borrowed(writer, format, value_at(row, place)),
     }

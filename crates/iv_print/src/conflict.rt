@@ -10,7 +10,7 @@ use crate::account::{
 use crate::device::{DeviceFault, Sink};
 use crate::outcome::{write_name, write_value};
 use crate::rule::write_described;
-use crate::write::write_all;
+use crate::write::{write_all, write_nothing};
 use iv_account::Disagreement;
 use iv_catalogue::{Catalogue, Constraint, ConstraintId, Rule};
 use iv_expr::{StoredRow, TableId};
@@ -28,7 +28,7 @@ fn write_refers_by<W: Sink>(
 {
     match rule {
         Rule::ForeignKey(key) => write_referenced(sink, catalogue, values, key),
-        _ => write_all(sink, b""),
+        _ => write_nothing(sink),
     }
 }
 
@@ -44,7 +44,7 @@ fn write_refers<W: Sink>(
 {
     match constraint {
         Some(constraint) => write_refers_by(sink, catalogue, values, &constraint.rule),
-        None => write_all(sink, b""),
+        None => write_nothing(sink),
     }
 }
 
@@ -109,7 +109,7 @@ fn write_row<W: Sink>(
         (conflict_text catalogue.now constraint rows.now how.now) }
 {
     match rows {
-        [] => write_all(sink, b""),
+        [] => write_nothing(sink),
         [row, ..] => {
             write_numbered(sink, catalogue, row.table, row.number)?;
             write_listed(sink, row.values.values())?;

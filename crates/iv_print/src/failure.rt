@@ -11,7 +11,7 @@ ghost use Rattle.iv_print.specs.AccountLines.{column_name, column_name_in, evalu
 use crate::account::{write_indent, write_listed, write_numbered, write_side, write_table};
 use crate::device::{DeviceFault, Sink};
 use crate::outcome::write_trigger;
-use crate::write::{write_all, write_number};
+use crate::write::{write_all, write_nothing, write_number};
 use itoa::Buffer;
 use iv_account::{EvaluatedFor, FailedEvaluation, Operator, RowAtHand, ValueFailure};
 use iv_catalogue::{Catalogue, Column, Table, TriggerId};
@@ -23,7 +23,7 @@ fn write_column<W: Sink>(sink: &mut W, columns: &[Column], column: u64) -> Resul
 {
     match columns.get(column as usize) {
         Some(column) => write_all(sink, column.name.as_str().as_bytes()),
-        None => write_all(sink, b""),
+        None => write_nothing(sink),
     }
 }
 
@@ -38,7 +38,7 @@ fn write_column_at<W: Sink>(
 {
     match table {
         Some(table) => write_column(sink, table.columns.as_slice(), column),
-        None => write_all(sink, b""),
+        None => write_nothing(sink),
     }
 }
 

@@ -11,7 +11,7 @@ ghost use Rattle.iv_print.specs.Json.{answer_members, cause_members, constraint_
 use crate::cause::{cause_name, cause_number, constraint_of, trigger_of};
 use crate::device::{DeviceFault, Sink};
 use crate::outcome::signal_text;
-use crate::write::{write_all, write_number};
+use crate::write::{write_all, write_nothing, write_number};
 use itoa::Buffer;
 use iv_catalogue::{Catalogue, Cause, Constraint, ConstraintId, Refusal, TriggerId};
 use iv_expr::Row;
@@ -148,7 +148,7 @@ fn write_values<W: Sink>(sink: &mut W, values: &[Value]) -> Result<(), DeviceFau
     ensures { Writes (W.state sink.old) (W.state sink.new) result (json_values values.now) }
 {
     match values {
-        [] => write_all(sink, b""),
+        [] => write_nothing(sink),
         [value, more @ ..] => {
             write_value(sink, value)?;
             write_more(sink, more)
@@ -188,7 +188,7 @@ fn write_rows<W: Sink>(sink: &mut W, rows: &[Row]) -> Result<(), DeviceFault>
     ensures { Writes (W.state sink.old) (W.state sink.new) result (json_rows rows.now) }
 {
     match rows {
-        [] => write_all(sink, b""),
+        [] => write_nothing(sink),
         [row, more @ ..] => {
             write_row(sink, row.values())?;
             write_more_rows(sink, more)
@@ -231,7 +231,7 @@ fn write_constraint<W: Sink>(
             write_member(sink, b"constraint")?;
             write_name(sink, catalogue.constraints(), id)
         }
-        None => write_all(sink, b""),
+        None => write_nothing(sink),
     }
 }
 
@@ -250,7 +250,7 @@ fn write_row_of<W: Sink>(sink: &mut W, cause: &Cause) -> Result<(), DeviceFault>
         Cause::ActionConflict(fault) => write_row_number(sink, fault.row),
         Cause::CommitRefused(fault) => write_row_number(sink, fault.row),
         Cause::AddRefused(row) => write_row_number(sink, *row),
-        _ => write_all(sink, b""),
+        _ => write_nothing(sink),
     }
 }
 
@@ -281,7 +281,7 @@ fn write_trigger<W: Sink>(
             write_member(sink, b"trigger")?;
             write_trigger_name(sink, catalogue, id)
         }
-        None => write_all(sink, b""),
+        None => write_nothing(sink),
     }
 }
 
@@ -302,7 +302,7 @@ fn write_signal<W: Sink>(
                 signal_text(catalogue, *id, *place).as_bytes(),
             )
         }
-        _ => write_all(sink, b""),
+        _ => write_nothing(sink),
     }
 }
 

@@ -22,7 +22,7 @@ use crate::json_failure::write_failure;
 use crate::json_rule::write_described;
 use crate::json_way::write_limit_entry;
 use crate::way::depth_after;
-use crate::write::{write_all, write_number};
+use crate::write::{write_all, write_nothing, write_number};
 use iv_account::{Entry, RowAction, SkippedView, TriggerView};
 use iv_catalogue::{
     Catalogue, Cause, Column, Constraint, ConstraintId, ForeignKey, Refusal, Rule, Table, TriggerId,
@@ -74,7 +74,7 @@ pub(crate) fn write_side<W: Sink>(
             write_member(sink, name)?;
             write_row(sink, row.values())
         }
-        None => write_all(sink, b""),
+        None => write_nothing(sink),
     }
 }
 
@@ -158,7 +158,7 @@ fn write_changes<W: Sink>(
         (json_changes catalogue.now changes.now) }
 {
     match changes {
-        [] => write_all(sink, b""),
+        [] => write_nothing(sink),
         [change, more @ ..] => {
             write_change(sink, catalogue, change)?;
             write_more_changes(sink, catalogue, more)
@@ -246,7 +246,7 @@ fn write_actions<W: Sink>(
         (json_actions catalogue.now actions.now) }
 {
     match actions {
-        [] => write_all(sink, b""),
+        [] => write_nothing(sink),
         [acted, more @ ..] => {
             write_action(sink, catalogue, acted)?;
             write_more_actions(sink, catalogue, more)
@@ -294,7 +294,7 @@ fn write_columns<W: Sink>(sink: &mut W, columns: &[u32], row: &[Value]) -> Resul
         (json_values (key_of columns.now row.now)) }
 {
     match columns {
-        [] => write_all(sink, b""),
+        [] => write_nothing(sink),
         [column, more @ ..] => {
             write_borrowed(sink, value_at(row, *column))?;
             write_more_columns(sink, more, row)
@@ -472,7 +472,7 @@ fn write_constraint_rule<W: Sink>(
 {
     match constraint {
         Some(constraint) => write_rule(sink, catalogue, outcome, row, others, constraint),
-        None => write_all(sink, b""),
+        None => write_nothing(sink),
     }
 }
 
@@ -489,7 +489,7 @@ fn write_violation<W: Sink>(
         (slice_get catalogue.now.constraints constraint) rows.now) }
 {
     match rows {
-        [] => write_all(sink, b""),
+        [] => write_nothing(sink),
         [row, others @ ..] => {
             let constraint = catalogue.constraint(constraint);
             write_place(sink, catalogue, row.table, row.number)?;
@@ -619,13 +619,13 @@ fn write_changes_nothing<W: Sink>(sink: &mut W) -> Result<(), DeviceFault>
     write_all(sink, b"true")
 }
 
-fn write_nothing<W: Sink>(sink: &mut W, nothing: bool) -> Result<(), DeviceFault>
+fn write_if_nothing<W: Sink>(sink: &mut W, nothing: bool) -> Result<(), DeviceFault>
     ensures { Writes (W.state sink.old) (W.state sink.new) result (nothing_member nothing) }
 {
     if nothing {
         write_changes_nothing(sink)
     } else {
-        write_all(sink, b"")
+        write_nothing(sink)
     }
 }
 
@@ -636,7 +636,7 @@ fn write_began<W: Sink>(sink: &mut W, place: u32, nothing: bool) -> Result<(), D
     write_entry_key(sink, b"statement")?;
     write_member(sink, b"number")?;
     write_number(sink, u64::from(place))?;
-    write_nothing(sink, nothing)?;
+    write_if_nothing(sink, nothing)?;
     write_member(sink, b"account")?;
     write_all(sink, b"[")
 }

@@ -10,7 +10,7 @@ use crate::json_account::{
     write_because, write_column_in, write_entry_key, write_place, write_referenced,
 };
 use crate::json_rule::write_described;
-use crate::write::write_all;
+use crate::write::{write_all, write_nothing};
 use iv_account::Disagreement;
 use iv_catalogue::{Catalogue, Constraint, ConstraintId, Rule};
 use iv_expr::{StoredRow, TableId};
@@ -31,7 +31,7 @@ fn write_refers_by<W: Sink>(
             write_because(sink, b"action_conflict")?;
             write_referenced(sink, catalogue, values, key)
         }
-        _ => write_all(sink, b""),
+        _ => write_nothing(sink),
     }
 }
 
@@ -47,7 +47,7 @@ fn write_refers<W: Sink>(
 {
     match constraint {
         Some(constraint) => write_refers_by(sink, catalogue, values, &constraint.rule),
-        None => write_all(sink, b""),
+        None => write_nothing(sink),
     }
 }
 
@@ -84,7 +84,7 @@ fn write_first<W: Sink>(
         (slice_get catalogue.now.constraints constraint) rows.now how.now) }
 {
     match rows {
-        [] => write_all(sink, b""),
+        [] => write_nothing(sink),
         [row, ..] => {
             let values = row.values.values();
             write_place(sink, catalogue, row.table, row.number)?;

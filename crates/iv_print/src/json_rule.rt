@@ -10,7 +10,7 @@ use crate::device::{DeviceFault, Sink};
 use crate::format::Format;
 use crate::json::{write_member, write_name};
 use crate::rule::tell_constraint;
-use crate::write::write_all;
+use crate::write::{write_all, write_nothing};
 use iv_catalogue::{Catalogue, Constraint, ConstraintId};
 
 // What a constraint asks, between its quotes.
@@ -41,7 +41,7 @@ fn write_asked_of<W: Sink>(
             write_member(sink, b"rule")?;
             write_words(sink, catalogue, constraint)
         }
-        None => write_all(sink, b""),
+        None => write_nothing(sink),
     }
 }
 

@@ -10,7 +10,7 @@ use crate::format::Format;
 use crate::json::write_member;
 use crate::json_account::write_entry_key;
 use crate::way::{Limit, limit_of, tell_limit};
-use crate::write::write_all;
+use crate::write::{write_all, write_nothing};
 use iv_account::Entry;
 use iv_catalogue::{Catalogue, Refusal};
 use iv_machine::Answer;
@@ -79,7 +79,7 @@ fn write_entry_of<W: Sink>(
 {
     match limit {
         Some(limit) => write_separated(sink, catalogue, entries, limit),
-        None => write_all(sink, b""),
+        None => write_nothing(sink),
     }
 }
 
@@ -94,7 +94,7 @@ pub(crate) fn write_limit_entry<W: Sink>(
         (limit_entry catalogue.now entries.now outcome.now) }
 {
     match outcome {
-        Ok(_) => write_all(sink, b""),
+        Ok(_) => write_nothing(sink),
         Err(refusal) => write_entry_of(sink, catalogue, entries, limit_of(&refusal.cause)),
     }
 }

@@ -37,7 +37,7 @@ pub use json::{
 pub use json_account::write_json_account;
 pub use outcome::{cause_words, signal_text, write_first_line, write_outcome, write_row_lines};
 pub use pending::{write_pending_lines, write_pending_members};
-pub use spelled::{tell, tell_between, tell_both};
+pub use spelled::{tell, tell_between, tell_both, tell_nothing};
 pub use spelled_number::{tell_number, tell_number_after, tell_number_between, tell_numbered};
 pub use spelled_value::tell_quoted;
-pub use write::{write_all, write_number};
+pub use write::{write_all, write_nothing, write_number};

@@ -7,7 +7,7 @@ ghost use Rattle.iv_print.specs.Writing.{Writes};
 ghost use Rattle.iv_print.specs.Lines.{quote_doubled, value_text, further_text, values_text, row_text, name_of, constraint_text, row_number_text, fault_text, trigger_text, body_statement, signal_text, signal_details, cause_words, details, inside_trigger, inside_text, answer_rows, answer_text, refusal_text, first_line, row_lines, line};
 
 use crate::device::{DeviceFault, Sink};
-use crate::write::{write_all, write_number};
+use crate::write::{write_all, write_nothing, write_number};
 use itoa::Buffer;
 use iv_catalogue::{
     BodyStatement, Catalogue, Cause, Constraint, ConstraintId, Fault, Refusal, TriggerId,
@@ -93,7 +93,7 @@ pub(crate) fn write_values<W: Sink>(sink: &mut W, values: &[Value]) -> Result<()
     ensures { Writes (W.state sink.old) (W.state sink.new) result (values_text values.now) }
 {
     match values {
-        [] => write_all(sink, b""),
+        [] => write_nothing(sink),
         [value, more @ ..] => {
             write_value(sink, value)?;
             write_more(sink, more)
@@ -130,7 +130,7 @@ pub(crate) fn write_name<W: Sink>(
 {
     match constraints.get(id.place() as usize) {
         Some(constraint) => write_all(sink, constraint.name.as_str().as_bytes()),
-        None => write_all(sink, b""),
+        None => write_nothing(sink),
     }
 }
 
@@ -204,7 +204,7 @@ pub(crate) fn write_trigger<W: Sink>(
     write_all(sink, b" ")?;
     match catalogue.trigger(id) {
         Some(trigger) => write_all(sink, trigger.name.as_str().as_bytes()),
-        None => write_all(sink, b""),
+        None => write_nothing(sink),
     }
 }
 
@@ -259,7 +259,7 @@ fn write_details<W: Sink>(
         Cause::Signal(id, place) => write_signal(sink, catalogue, *id, *place),
         Cause::DepthLimit(id) => write_trigger(sink, catalogue, *id),
         Cause::AddRefused(row) => write_row_number(sink, *row),
-        _ => write_all(sink, b""),
+        _ => write_nothing(sink),
     }
 }
 
@@ -276,7 +276,7 @@ fn write_inside_trigger<W: Sink>(
             write_all(sink, b" in")?;
             write_trigger(sink, catalogue, id)
         }
-        None => write_all(sink, b""),
+        None => write_nothing(sink),
     }
 }
 
@@ -291,7 +291,7 @@ fn write_inside<W: Sink>(
         (inside_text catalogue.now cause.now trigger) }
 {
     match cause {
-        Cause::Signal(_, _) | Cause::DepthLimit(_) => write_all(sink, b""),
+        Cause::Signal(_, _) | Cause::DepthLimit(_) => write_nothing(sink),
         _ => write_inside_trigger(sink, catalogue, trigger),
     }
 }
@@ -334,7 +334,7 @@ fn write_answer_rows<W: Sink>(sink: &mut W, answer: &Answer) -> Result<(), Devic
 {
     match answer {
         Answer::Rows(rows) => write_rows(sink, rows.as_slice()),
-        _ => write_all(sink, b""),
+        _ => write_nothing(sink),
     }
 }
 
@@ -366,7 +366,7 @@ pub fn write_row_lines<W: Sink>(
 {
     match outcome {
         Ok(answer) => write_answer_rows(sink, answer),
-        Err(_) => write_all(sink, b""),
+        Err(_) => write_nothing(sink),
     }
 }
 

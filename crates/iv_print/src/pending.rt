@@ -16,7 +16,7 @@ use crate::json::{write_key, write_member, write_name as write_json_name};
 use crate::json_account::{write_json_account, write_place};
 use crate::json_rule::write_asked;
 use crate::rule::write_described;
-use crate::write::write_all;
+use crate::write::{write_all, write_nothing};
 use iv_account::Entry;
 use iv_catalogue::{Catalogue, Constraint, ConstraintId, Fault, Refusal};
 use iv_expr::StoredRow;
@@ -71,7 +71,7 @@ fn write_came<W: Sink>(
         Entry::Faulted(fault, rows) => {
             write_violation(sink, catalogue, fault.constraint, rows.as_slice())
         }
-        _ => write_all(sink, b""),
+        _ => write_nothing(sink),
     }
 }
 
@@ -103,7 +103,7 @@ fn write_row_of<W: Sink>(
 {
     match constraint {
         Some(constraint) => write_numbered(sink, catalogue, constraint.table, row),
-        None => write_all(sink, b""),
+        None => write_nothing(sink),
     }
 }
 
@@ -188,7 +188,7 @@ fn write_came_member<W: Sink>(
         (came_member catalogue.now entries.now) }
 {
     match entries {
-        [] => write_all(sink, b""),
+        [] => write_nothing(sink),
         [_, ..] => {
             write_member(sink, b"now_pending")?;
             write_entries(sink, catalogue, entries)
@@ -207,7 +207,7 @@ fn write_row_members<W: Sink>(
 {
     match constraint {
         Some(constraint) => write_place(sink, catalogue, constraint.table, row),
-        None => write_all(sink, b""),
+        None => write_nothing(sink),
     }
 }
 
@@ -269,7 +269,7 @@ fn write_went_objects<W: Sink>(
         (went_objects catalogue.now faults.now) }
 {
     match faults {
-        [] => write_all(sink, b""),
+        [] => write_nothing(sink),
         [fault, more @ ..] => {
             write_went_object(sink, catalogue, fault)?;
             write_more_went(sink, catalogue, more)
@@ -300,7 +300,7 @@ fn write_went_member<W: Sink>(
         (went_member catalogue.now faults.now) }
 {
     match faults {
-        [] => write_all(sink, b""),
+        [] => write_nothing(sink),
         [_, ..] => write_went_list(sink, catalogue, faults),
     }
 }

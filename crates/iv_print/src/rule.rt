@@ -9,8 +9,8 @@ ghost use Rattle.iv_print.specs.Writing.{Writes};
 
 use crate::device::{DeviceFault, Sink};
 use crate::format::Format;
-use crate::spelled::{tell, tell_both};
-use crate::write::write_all;
+use crate::spelled::{tell, tell_both, tell_nothing};
+use crate::write::{write_all, write_nothing};
 use iv_catalogue::{Catalogue, Column, Constraint, ConstraintId, ForeignKey, Rule, Table};
 use iv_syntax::{MatchType, NullTreatment};
 
@@ -104,7 +104,7 @@ fn tell_names<W: Sink>(
         (spelled format (names_text columns.now places.now)) }
 {
     match places {
-        [] => tell(writer, format, b""),
+        [] => tell_nothing(writer, format),
         [place, more @ ..] => tell_some_names(writer, format, columns, *place, more),
     }
 }
@@ -420,7 +420,7 @@ fn write_words_if<W: Sink>(
         write_constraint(sink, catalogue, constraint)?;
         write_all(sink, b")")
     } else {
-        write_all(sink, b"")
+        write_nothing(sink)
     }
 }
 
@@ -448,7 +448,7 @@ fn write_if_there<W: Sink>(
 {
     match constraint {
         Some(constraint) => write_named(sink, catalogue, constraint),
-        None => write_all(sink, b""),
+        None => write_nothing(sink),
     }
 }
 

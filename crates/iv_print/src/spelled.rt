@@ -19,6 +19,13 @@ pub fn tell<W: Sink>(writer: &mut W, format: Format, bytes: &[u8]) -> Result<(),
     }
 }
 
+/// Writes no text: what a writer does where there is nothing to tell.
+pub fn tell_nothing<W: Sink>(writer: &mut W, format: Format) -> Result<(), DeviceFault>
+    ensures { Writes (W.state writer.old) (W.state writer.new) result (spelled format []) }
+{
+    tell(writer, format, b"")
+}
+
 /// Writes two texts, one after the other.
 #[tactic(auto, using(crate::proofs::SpelledLemmas::spelled_then))]
 pub fn tell_both<W: Sink>(

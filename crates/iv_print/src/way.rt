@@ -8,9 +8,9 @@ ghost use Rattle.iv_print.specs.Writing.{Writes};
 
 use crate::device::{DeviceFault, Sink};
 use crate::format::Format;
-use crate::spelled::{tell, tell_between};
+use crate::spelled::{tell, tell_between, tell_nothing};
 use crate::spelled_number::{tell_number_after, tell_number_between};
-use crate::write::write_all;
+use crate::write::{write_all, write_nothing};
 use itoa::Buffer;
 use iv_account::Entry;
 use iv_catalogue::{Catalogue, Cause, Refusal, TriggerId};
@@ -132,7 +132,7 @@ fn tell_begun<W: Sink>(
                 buffer.format(begun.place).as_bytes(),
             )
         }
-        None => tell(writer, format, b""),
+        None => tell_nothing(writer, format),
     }
 }
 
@@ -211,7 +211,7 @@ fn tell_last<W: Sink>(
         (spelled format (last_text catalogue.now entries.now more)) }
 {
     if more == 2 {
-        tell(writer, format, b"")
+        tell_nothing(writer, format)
     } else if more == 3 {
         tell_next(writer, format, catalogue, entries, 3)
     } else {
@@ -245,7 +245,7 @@ fn tell_third<W: Sink>(
         (spelled format (third_text catalogue.now entries.now more)) }
 {
     if more == 1 {
-        tell(writer, format, b"")
+        tell_nothing(writer, format)
     } else {
         tell_third_and_last(writer, format, catalogue, entries, more)
     }
@@ -278,7 +278,7 @@ fn tell_further<W: Sink>(
         (spelled format (further_text catalogue.now entries.now more)) }
 {
     if more == 0 {
-        tell(writer, format, b"")
+        tell_nothing(writer, format)
     } else {
         tell_second_and_third(writer, format, catalogue, entries, more)
     }
@@ -315,7 +315,7 @@ fn tell_way<W: Sink>(
         (spelled format (way_text catalogue.now entries.now depth)) }
 {
     if depth == 0 {
-        tell(writer, format, b"")
+        tell_nothing(writer, format)
     } else {
         tell_some(writer, format, b": ", catalogue, entries, depth - 1)
     }
@@ -520,7 +520,7 @@ fn write_line_of<W: Sink>(
 {
     match limit {
         Some(limit) => write_line(sink, catalogue, entries, limit),
-        None => write_all(sink, b""),
+        None => write_nothing(sink),
     }
 }
 
@@ -535,7 +535,7 @@ pub(crate) fn write_limit_line<W: Sink>(
         (limit_line catalogue.now entries.now outcome.now) }
 {
     match outcome {
-        Ok(_) => write_all(sink, b""),
+        Ok(_) => write_nothing(sink),
         Err(refusal) => write_line_of(sink, catalogue, entries, limit_of(&refusal.cause)),
     }
 }

@@ -17,6 +17,13 @@ pub fn write_all<W: Sink>(sink: &mut W, bytes: &[u8]) -> Result<(), DeviceFault>
     Ok(())
 }
 
+/// Writes no bytes: what a writer does where there is nothing to write.
+pub fn write_nothing<W: Sink>(sink: &mut W) -> Result<(), DeviceFault>
+    ensures { Writes (W.state sink.old) (W.state sink.new) result [] }
+{
+    write_all(sink, b"")
+}
+
 /// Writes a number in decimal. It takes no memory.
 pub fn write_number<W: Sink>(sink: &mut W, number: u64) -> Result<(), DeviceFault>
     ensures { Writes (W.state sink.old) (W.state sink.new) result (decimal number) }

@@ -4,7 +4,7 @@ ghost use Rattle.iv_print.specs.Writing.{Writes};
 ghost use Rattle.iv_program.specs.Notes.{are_none, fault_alone, fault_note, notes_status, notes_text, open_note, place_note, refused_note, some_fault_note, some_refused_note, stop_line, stop_text, TellsNotes, TellsStop};
 
 use crate::script::ScriptFault;
-use iv_print::{DeviceFault, Sink, write_all, write_number};
+use iv_print::{DeviceFault, Sink, write_all, write_nothing, write_number};
 use iv_script::{Place, RunFault};
 use std::alloc::AllocError;
 
@@ -86,7 +86,7 @@ fn write_fault<E: Sink>(faults: &mut E, fault: Option<ScriptFault>) -> Result<()
 {
     match fault {
         Some(fault) => write_some_fault(faults, fault),
-        None => write_all(faults, b""),
+        None => write_nothing(faults),
     }
 }
 
@@ -102,7 +102,7 @@ fn write_refused<E: Sink>(faults: &mut E, refused: u64) -> Result<(), DeviceFaul
     ensures { Writes (E.state faults.old) (E.state faults.new) result (refused_note refused) }
 {
     if refused == 0 {
-        return write_all(faults, b"");
+        return write_nothing(faults);
     }
     write_some_refused(faults, refused)
 }
@@ -113,7 +113,7 @@ fn write_open<E: Sink>(faults: &mut E, is_open: bool) -> Result<(), DeviceFault>
     if is_open {
         write_all(faults, b"sqlkeep: the open transaction was rolled back\n")
     } else {
-        write_all(faults, b"")
+        write_nothing(faults)
     }
 }
 

@@ -7,7 +7,7 @@ ghost use Rattle.iv_print.specs.Writing.{Writes};
 ghost use Rattle.iv_script.specs.FaultLines.{around_text, back, behind, caret_around, caret_below, caret_text, front, front_bytes, last_line, left_after, shown, spaces};
 
 use crate::place::{is_continuation, place_at, words_of};
-use iv_print::{DeviceFault, Sink, write_all};
+use iv_print::{DeviceFault, Sink, write_all, write_nothing};
 use unicode_width::UnicodeWidthStr;
 
 /// The most characters that are shown of a line before a word, and from it on.
@@ -152,7 +152,7 @@ fn write_below<W: Sink>(writer: &mut W, after: &[u8]) -> Result<(), DeviceFault>
     ensures { Writes (W.state writer.old) (W.state writer.new) result (caret_below after.now) }
 {
     if after.is_empty() {
-        return write_all(writer, b"");
+        return write_nothing(writer);
     }
     write_caret(writer, "", after)
 }

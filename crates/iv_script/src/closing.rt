@@ -6,7 +6,7 @@ ghost use Rattle.iv_script.specs.Transcript.{closing_in, closing_text, end_line,
 use crate::fault_line::write_fault_place;
 use crate::json_line::write_json_closing;
 use iv_parse::SyntaxFault;
-use iv_print::{DeviceFault, Format, Sink, Style, write_all, write_number};
+use iv_print::{DeviceFault, Format, Sink, Style, write_all, write_nothing, write_number};
 
 // Writes the line of a fault after so many statements.
 #[tactic(auto, using(iv_print::proofs::WriteLemmas::writes_then))]
@@ -20,7 +20,7 @@ fn write_fault<W: Sink>(
         (fault_line count (option_map (λ f. f.at) fault)) }
 {
     match fault {
-        None => write_all(writer, b""),
+        None => write_nothing(writer),
         Some(fault) => {
             write_number(writer, count + 1)?;
             write_all(writer, b" fault ")?;
@@ -37,7 +37,7 @@ fn write_end<W: Sink>(writer: &mut W, is_open: bool) -> Result<(), DeviceFault>
     if is_open {
         write_all(writer, b"end rolled back\n")
     } else {
-        write_all(writer, b"")
+        write_nothing(writer)
     }
 }
 

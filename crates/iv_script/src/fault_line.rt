@@ -9,7 +9,7 @@ use crate::hint::{fault_hint, token_text};
 use crate::place::{MOST_WORDS, Place, place_at, words_of};
 use iv_lex::{Token, TokenKind, kind_text};
 use iv_parse::SyntaxFault;
-use iv_print::{DeviceFault, Sink, write_all, write_number};
+use iv_print::{DeviceFault, Sink, write_all, write_nothing, write_number};
 
 /// The wrong word of a text, or its first characters; or what tells that the text ends.
 pub fn wrong_word<'a>(text: &'a str, token: Option<Token>) -> &'a [u8]
@@ -47,7 +47,7 @@ fn write_wanted<W: Sink>(writer: &mut W, kinds: &[TokenKind]) -> Result<(), Devi
     ensures { Writes (W.state writer.old) (W.state writer.new) result (wanted_text kinds.now) }
 {
     match kinds {
-        [] => write_all(writer, b""),
+        [] => write_nothing(writer),
         [kind, more @ ..] => {
             write_all(writer, b"; wanted ")?;
             write_all(writer, kind_text(*kind).as_bytes())?;
@@ -102,6 +102,6 @@ pub fn write_fault_place<W: Sink>(
 {
     match fault {
         Some(fault) if explain => write_lines(writer, text, &fault),
-        _ => write_all(writer, b""),
+        _ => write_nothing(writer),
     }
 }

@@ -18,7 +18,7 @@ use iv_lex::{Token, TokenKind, kind_text};
 use iv_parse::SyntaxFault;
 use iv_print::{
     DeviceFault, Sink, write_all, write_json_account, write_json_text, write_key, write_member,
-    write_number, write_number_member, write_outcome_members, write_pending_members,
+    write_nothing, write_number, write_number_member, write_outcome_members, write_pending_members,
     write_text_member,
 };
 use iv_step::Outcome;
@@ -48,7 +48,7 @@ fn write_account_member<W: Sink>(
         write_member(writer, b"account")?;
         write_json_account(writer, catalogue, outcome, account)
     } else {
-        write_all(writer, b"")
+        write_nothing(writer)
     }
 }
 
@@ -71,7 +71,7 @@ fn write_explained<W: Sink>(
             statement,
             &refusal.cause,
         ),
-        _ => write_all(writer, b""),
+        _ => write_nothing(writer),
     }
 }
 
@@ -88,7 +88,7 @@ fn write_about<W: Sink>(
 {
     match statement {
         Some(statement) => write_explained(writer, telling, catalogue, statement, outcome),
-        None => write_all(writer, b""),
+        None => write_nothing(writer),
     }
 }
 
@@ -104,11 +104,11 @@ fn write_columns<W: Sink>(
         (columns_member_of telling.style.explain catalogue.now (option_copied statement.entry) outcome.now) }
 {
     let Some(statement) = statement else {
-        return write_all(writer, b"");
+        return write_nothing(writer);
     };
     match outcome {
         Ok(_) if telling.style.explain => write_columns_member(writer, catalogue, statement),
-        _ => write_all(writer, b""),
+        _ => write_nothing(writer),
     }
 }
 
@@ -165,7 +165,7 @@ fn write_text<W: Sink>(writer: &mut W, text: &str, token: Option<Token>) -> Resu
     ensures { Writes (W.state writer.old) (W.state writer.new) result (text_member text.now token) }
 {
     if token.is_none() {
-        return write_all(writer, b"");
+        return write_nothing(writer);
     }
     write_text_member(writer, b"text", wrong_word(text, token))
 }
@@ -208,7 +208,7 @@ fn write_kinds<W: Sink>(writer: &mut W, kinds: &[TokenKind]) -> Result<(), Devic
     ensures { Writes (W.state writer.old) (W.state writer.new) result (json_kinds kinds.now) }
 {
     match kinds {
-        [] => write_all(writer, b""),
+        [] => write_nothing(writer),
         [kind, more @ ..] => {
             write_json_text(writer, kind_text(*kind).as_bytes())?;
             write_more_kinds(writer, more)
@@ -232,7 +232,7 @@ fn write_hint<W: Sink>(writer: &mut W, hint: &[u8]) -> Result<(), DeviceFault>
     ensures { Writes (W.state writer.old) (W.state writer.new) result (hint_member hint.now) }
 {
     if hint.is_empty() {
-        return write_all(writer, b"");
+        return write_nothing(writer);
     }
     write_text_member(writer, b"hint", hint)
 }
@@ -292,7 +292,7 @@ fn write_fault<W: Sink>(
 {
     match fault {
         Some(fault) => write_fault_members(writer, text, count, &fault),
-        None => write_all(writer, b""),
+        None => write_nothing(writer),
     }
 }
 
@@ -303,7 +303,7 @@ fn write_end<W: Sink>(writer: &mut W, is_open: bool) -> Result<(), DeviceFault>
     if is_open {
         write_all(writer, b"{\"kind\":\"end\",\"rolled_back\":true}\n")
     } else {
-        write_all(writer, b"")
+        write_nothing(writer)
     }
 }
 

@@ -12,7 +12,7 @@ use iv_account::Entry;
 use iv_catalogue::{Catalogue, Fault};
 use iv_explain::{write_columns_line, write_explained_line};
 use iv_print::{
-    DeviceFault, Format, Sink, write_account, write_all, write_first_line, write_pending_lines,
+    DeviceFault, Format, Sink, write_account, write_first_line, write_nothing, write_pending_lines,
     write_row_lines,
 };
 use iv_step::Outcome;
@@ -46,7 +46,7 @@ fn write_explained<W: Sink>(
             statement,
             &refusal.cause,
         ),
-        _ => write_all(writer, b""),
+        _ => write_nothing(writer),
     }
 }
 
@@ -63,7 +63,7 @@ fn write_name_of<W: Sink>(
 {
     match statement {
         Some(statement) => write_explained(writer, telling, catalogue, statement, outcome),
-        None => write_all(writer, b""),
+        None => write_nothing(writer),
     }
 }
 
@@ -79,11 +79,11 @@ fn write_columns<W: Sink>(
         (columns_line_of telling.style.explain catalogue.now (option_copied statement.entry) outcome.now) }
 {
     let Some(statement) = statement else {
-        return write_all(writer, b"");
+        return write_nothing(writer);
     };
     match outcome {
         Ok(_) if telling.style.explain => write_columns_line(writer, catalogue, statement),
-        _ => write_all(writer, b""),
+        _ => write_nothing(writer),
     }
 }
 
@@ -101,7 +101,7 @@ fn write_account_of<W: Sink>(
     if telling.style.explain {
         write_account(writer, catalogue, outcome, account)
     } else {
-        write_all(writer, b"")
+        write_nothing(writer)
     }
 }
 
