@@ -8,8 +8,8 @@ ghost use Rattle.iv_store_groups.specs.Lending.{CountedAreLooked};
 
 use crate::hand::{Hand, count_left, count_made};
 use crate::indexes::{
-    FoundGroup, add_under, count_at, count_in, group_under, is_loose, kept, make_room_under,
-    put_under, remove_under, rows_under,
+    FoundGroup, add_under, count_at, count_in, group_under, is_loose, make_room_under, put_under,
+    recall_groups, remove_under, rows_under,
 };
 use crate::key_index::KeyIndex;
 use iv_key::Key;
