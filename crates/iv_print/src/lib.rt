@@ -16,6 +16,7 @@ mod json_conflict;
 mod json_failure;
 mod json_rule;
 mod json_way;
+mod names;
 mod outcome;
 mod pending;
 mod rule;
