@@ -97,8 +97,8 @@ typedef struct sqlkeep_summary {
     /* 1 where something is left of the text that is no statement, else 0; and the byte, from 0, where that begins. */
     uint64_t has_fault;
     uint64_t fault_at;
-    /* How many refused COMMITs have an empty account, or statements no lines of what is pending, since memory was refused for
-       it; 0 where no accounts are asked for. */
+    /* How many refused COMMITs and ROLLBACK TOs have an empty account, or statements no lines of what is pending, since memory was
+       refused for it; 0 where no accounts are asked for. */
     uint64_t untold;
 } sqlkeep_summary;
 
@@ -346,7 +346,13 @@ enum sqlkeep_entry_kind {
     SQLKEEP_ENTRY_DISAGREEMENT = 7,
     /* A number out of range, or a text that is too long. Its item, if it has one, is the row at hand; otherwise it may have an old and
        a new row of a trigger. sqlkeep_entry_trigger names the trigger whose WHEN it is. sqlkeep_lines tells the rest in words. */
-    SQLKEEP_ENTRY_FAILURE = 8
+    SQLKEEP_ENTRY_FAILURE = 8,
+    /* RELEASE or ROLLBACK TO names a savepoint that isn't there. Its items are the savepoints that stand, the earliest first, of which
+       only the names are told: sqlkeep_entry_name. */
+    SQLKEEP_ENTRY_SAVEPOINTS = 9,
+    /* A constraint that ALTER TABLE doesn't add, and the row that violates it. Its items are as those of a violation. The catalogue
+       doesn't have the constraint: its name is that of item 0. */
+    SQLKEEP_ENTRY_NOT_ADDED = 10
 };
 
 /* An entry of an account. What its kind doesn't have is 0. */
@@ -428,7 +434,7 @@ uint32_t sqlkeep_close(sqlkeep *handle);
 /* From now on an account of each statement is asked for, or isn't: 0 is no, all else is yes. The last account is cleared. An account says what happened
    in a statement, line by line: rows that changed, foreign keys that acted, triggers that ran, and the rows that a refusal is
    about (docs/language/accounts.md). sqlkeep_run and sqlkeep_lines write it. Where memory for it is refused, the statement is
-   refused with cause 22; a COMMIT is as without one then, and its account is empty. SQLKEEP_CLOSED. */
+   refused with cause 22; a COMMIT or a ROLLBACK TO SAVEPOINT is as without one then, and its account is empty. SQLKEEP_CLOSED. */
 uint32_t sqlkeep_explain(sqlkeep *handle, uint32_t asked);
 
 /* Runs a whole script as the program does: in a new database of its own, with the limits of this session, and with
@@ -669,6 +675,10 @@ uint32_t sqlkeep_entries(sqlkeep *handle, size_t *count);
 uint32_t sqlkeep_entry(sqlkeep *handle, size_t at, sqlkeep_entry_shown *entry);
 uint32_t sqlkeep_entry_trigger(sqlkeep *handle, size_t at, size_t from, uint8_t *buffer, size_t size, size_t *copied);
 
+/* A name that an entry tells and the catalogue doesn't have, copied as sqlkeep_transcript does: of an item of
+   SQLKEEP_ENTRY_SAVEPOINTS, or of the constraint of SQLKEEP_ENTRY_NOT_ADDED, with item 0. */
+uint32_t sqlkeep_entry_name(sqlkeep *handle, size_t at, size_t item, size_t from, uint8_t *buffer, size_t size, size_t *copied);
+
 /* An item of an entry; a value of its row on one side, SQLKEEP_NEW for a row that a violation is about; and the bytes of a text. */
 uint32_t sqlkeep_entry_item(sqlkeep *handle, size_t at, size_t item, sqlkeep_item *shown);
 uint32_t sqlkeep_entry_value(sqlkeep *handle, size_t at, size_t item, uint32_t side, size_t column, sqlkeep_cell *value);
@@ -877,6 +887,9 @@ static inline uint32_t sqlkeep_tested_entry(sqlkeep *handle, size_t at, sqlkeep_
 static inline uint32_t sqlkeep_tested_entry_trigger(sqlkeep *handle, size_t at, size_t from, uint8_t *buffer, size_t size, size_t *copied) {
     return handle == NULL ? (uint32_t)SQLKEEP_NO_HANDLE : sqlkeep_entry_trigger(handle, at, from, buffer, size, copied);
 }
+static inline uint32_t sqlkeep_tested_entry_name(sqlkeep *handle, size_t at, size_t item, size_t from, uint8_t *buffer, size_t size, size_t *copied) {
+    return handle == NULL ? (uint32_t)SQLKEEP_NO_HANDLE : sqlkeep_entry_name(handle, at, item, from, buffer, size, copied);
+}
 static inline uint32_t sqlkeep_tested_entry_item(sqlkeep *handle, size_t at, size_t item, sqlkeep_item *shown) {
     return handle == NULL ? (uint32_t)SQLKEEP_NO_HANDLE : sqlkeep_entry_item(handle, at, item, shown);
 }
@@ -1000,6 +1013,7 @@ static inline uint32_t sqlkeep_tested_violation_text(sqlkeep *handle, size_t at,
 #define sqlkeep_entries sqlkeep_tested_entries
 #define sqlkeep_entry sqlkeep_tested_entry
 #define sqlkeep_entry_trigger sqlkeep_tested_entry_trigger
+#define sqlkeep_entry_name sqlkeep_tested_entry_name
 #define sqlkeep_entry_item sqlkeep_tested_entry_item
 #define sqlkeep_entry_value sqlkeep_tested_entry_value
 #define sqlkeep_entry_text sqlkeep_tested_entry_text

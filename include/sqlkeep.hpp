@@ -191,6 +191,7 @@ inline bool ends(std::string_view text, std::string_view with) { return text.siz
 inline bool is_reason(std::string_view line, std::uint32_t cause) {
     if (cause == SQLKEEP_CAUSE_UNKNOWN) return ends(line, " isn't there");
     if (cause == SQLKEEP_CAUSE_DUPLICATE) return ends(line, " is there already") || ends(line, " comes twice");
+    if (cause == SQLKEEP_CAUSE_UNKNOWN_SAVEPOINT) return begins(line, "savepoint") || line == "no savepoint stands";
     for (const char *word : {"insert ", "update ", "delete ", "trigger ", "statement ", "saw "}) {
         if (begins(line, word)) return false;
     }

@@ -9,13 +9,15 @@
  * @typedef {{kind: "skipped", trigger: string, old: Value[] | null, new: Value[] | null, when: "false" | "unknown"}} Skipped
  * @typedef {{kind: "violation", constraint: string, rule?: string, table: string, row: number, values: Value[], reason: string, condition?: string,
  *     withValues?: string, column?: string, otherTable?: string, otherRow?: number, other?: Value[], otherConstraint?: string, value?: Value, otherValue?: Value}} Violation
+ * @typedef {{kind: "savepoints", standing: string[]}} Savepoints
  * @typedef {{kind: "note", text: string}} Note
- * @typedef {Change | Action | Run | Skipped | Violation | Note} Entry
+ * @typedef {Change | Action | Run | Skipped | Violation | Savepoints | Note} Entry
  */
 
 const ACTION = /^(\w+) (CASCADE|SET NULL|SET DEFAULT) on (\w+) row (\d+)$/;
 const CHANGE = /^(insert|delete|update) (\w+) row (\d+) /;
 const VIOLATION = /^(\w+)(?: \(((?:NOT NULL|CHECK|UNIQUE|PRIMARY KEY|FOREIGN KEY)[\w ,()]*)\))?: (\w+) row (\d+) /;
+const SAVEPOINTS = /^(?:no savepoint stands|savepoints that stand: (\w+(?:, \w+)*))$/;
 const VALUE = /NULL|-?\d+|'[^']*(?:''[^']*)*'/y;
 /** @type {[string, RegExp][]} */
 const REASONS = [
@@ -91,7 +93,7 @@ function entryOf(line) {
   if (statement) {
     return { kind: "statement", place: Number(statement[1]), entries: [], ...(statement[2] ? { changesNothing: true } : {}) };
   }
-  return changeOf(line) ?? actionOf(line) ?? triggerOf(line) ?? violationOf(line) ?? { kind: "note", text: line };
+  return changeOf(line) ?? actionOf(line) ?? triggerOf(line) ?? violationOf(line) ?? savepointsOf(line) ?? { kind: "note", text: line };
 }
 
 function changeOf(line) {
@@ -135,6 +137,11 @@ function violationOf(line) {
   const { values, end } = valuesAt(line, found[0].length);
   const rule = found[2] ? { rule: found[2] } : {};
   return { kind: "violation", constraint: found[1], ...rule, table: found[3], row: Number(found[4]), values, ...reasonOf(line, end) };
+}
+
+function savepointsOf(line) {
+  const found = SAVEPOINTS.exec(line);
+  return found && { kind: "savepoints", standing: found[1]?.split(", ") ?? [] };
 }
 
 function reasonOf(line, at) {

@@ -107,7 +107,7 @@ export interface TriggerSkipped {
   when: "false" | "unknown";
 }
 
-/** A row that a refusal is about, and why. */
+/** A row that a refusal is about, and why. ALTER TABLE tells so of a constraint that it doesn't add, which no table has. */
 export interface ViolationEntry {
   kind: "violation";
   constraint: string;
@@ -133,13 +133,19 @@ export interface ViolationEntry {
   value?: Value;
 }
 
+/** The savepoints that stand where RELEASE or ROLLBACK TO names one that isn't there, the earliest first. */
+export interface Savepoints {
+  kind: "savepoints";
+  standing: string[];
+}
+
 /** A line that tells the name that a refusal is about. */
 export interface Note {
   kind: "note";
   text: string;
 }
 
-export type Entry = Change | Action | TriggerRun | TriggerSkipped | ViolationEntry | Note;
+export type Entry = Change | Action | TriggerRun | TriggerSkipped | ViolationEntry | Savepoints | Note;
 
 export interface Column {
   name: string;

@@ -182,6 +182,7 @@ static int closed(void) {
         size_t count;
         WANT(sqlkeep_entries(it, &count) == want && sqlkeep_entry(it, 0, &entry) == want && sqlkeep_entry_item(it, 0, 0, &item) == want);
         WANT(sqlkeep_entry_trigger(it, 0, 0, bytes, 1, &count) == want && sqlkeep_entry_value(it, 0, 0, 0, 0, &cell) == want);
+        WANT(sqlkeep_entry_name(it, 0, 0, 0, bytes, 1, &count) == want);
         WANT(sqlkeep_entry_text(it, 0, 0, 0, 0, 0, bytes, 1, &count) == want && sqlkeep_seen_value(it, 0, 0, 0, &cell) == want);
         WANT(sqlkeep_seen_text(it, 0, 0, 0, 0, bytes, 1, &count) == want);
         WANT(sqlkeep_disagreement(it, 0, &how) == want && sqlkeep_disagreement_text(it, 0, 0, 0, bytes, 1, &count) == want);
@@ -244,6 +245,56 @@ static int limits(void) {
     return 0;
 }
 
+static bool is_name(sqlkeep *session, size_t at, size_t item, const char *want) {
+    uint8_t bytes[20];
+    size_t count = 0;
+    return sqlkeep_entry_name(session, at, item, 0, bytes, sizeof bytes, &count) == SQLKEEP_OK && count == strlen(want) && memcmp(bytes, want, count) == 0;
+}
+
+/* Savepoints that stand where one isn't there: the earliest is first; and none. A ROLLBACK TO of one that is there is told nothing. */
+static int savepoints(sqlkeep *session) {
+    sqlkeep_outcome outcome;
+    sqlkeep_entry_shown entry;
+    sqlkeep_item item;
+    sqlkeep_cell cell;
+    uint8_t bytes[20];
+    size_t count = 0;
+    WANT(executed(session, "START TRANSACTION; RELEASE SAVEPOINT first;", &outcome) == SQLKEEP_REFUSED && outcome.cause == SQLKEEP_CAUSE_UNKNOWN_SAVEPOINT);
+    WANT(sqlkeep_entries(session, &count) == SQLKEEP_OK && count == 1 && is_entry(session, 0, SQLKEEP_ENTRY_SAVEPOINTS, 0));
+    WANT(sqlkeep_entry_name(session, 0, 0, 0, bytes, sizeof bytes, &count) == SQLKEEP_NOTHING);
+    WANT(executed(session, "SAVEPOINT first; SAVEPOINT second; ROLLBACK TO SAVEPOINT third;", &outcome) == SQLKEEP_REFUSED);
+    WANT(sqlkeep_entries(session, &count) == SQLKEEP_OK && count == 1 && is_entry(session, 0, SQLKEEP_ENTRY_SAVEPOINTS, 2));
+    WANT(sqlkeep_entry(session, 0, &entry) == SQLKEEP_OK && entry.constraint == 0 && entry.row == 0 && entry.has_old == 0 && entry.has_new == 0);
+    WANT(is_name(session, 0, 0, "FIRST") && is_name(session, 0, 1, "SECOND"));
+    WANT(sqlkeep_entry_name(session, 0, 1, 3, bytes, sizeof bytes, &count) == SQLKEEP_OK && count == 3 && memcmp(bytes, "OND", 3) == 0);
+    WANT(sqlkeep_entry_name(session, 0, 2, 0, bytes, sizeof bytes, &count) == SQLKEEP_NOTHING && sqlkeep_entry_name(session, 1, 0, 0, bytes, sizeof bytes, &count) == SQLKEEP_NOTHING);
+    WANT(sqlkeep_entry_item(session, 0, 0, &item) == SQLKEEP_NOTHING && sqlkeep_entry_value(session, 0, 0, SQLKEEP_NEW, 0, &cell) == SQLKEEP_NOTHING);
+    WANT(executed(session, "ROLLBACK TO SAVEPOINT second;", &outcome) == SQLKEEP_DONE && sqlkeep_entries(session, &count) == SQLKEEP_OK && count == 0);
+    WANT(sqlkeep_rollback(session) == SQLKEEP_OK);
+    return 0;
+}
+
+/* A constraint that isn't added: its name, the row that violates it, and the row with the same key. */
+static int not_added(sqlkeep *session) {
+    sqlkeep_outcome outcome;
+    sqlkeep_entry_shown entry;
+    sqlkeep_item item, other;
+    uint8_t bytes[20];
+    size_t count = 0;
+    WANT(executed(session, "CREATE TABLE pile (a INT, b VARCHAR(3)); INSERT INTO pile VALUES (5, 'x'), (6, 'y'), (5, 'z'); COMMIT;", &outcome) == SQLKEEP_DONE);
+    WANT(executed(session, "ALTER TABLE pile ADD CONSTRAINT one UNIQUE (a);", &outcome) == SQLKEEP_REFUSED && outcome.cause == SQLKEEP_CAUSE_ADD_REFUSED);
+    WANT(sqlkeep_entries(session, &count) == SQLKEEP_OK && count == 1 && is_entry(session, 0, SQLKEEP_ENTRY_NOT_ADDED, 2));
+    WANT(sqlkeep_entry(session, 0, &entry) == SQLKEEP_OK && entry.constraint == 0 && entry.row == 0);
+    WANT(is_name(session, 0, 0, "ONE") && sqlkeep_entry_name(session, 0, 1, 0, bytes, sizeof bytes, &count) == SQLKEEP_NOTHING);
+    WANT(sqlkeep_entry_item(session, 0, 0, &item) == SQLKEEP_OK && item.row == outcome.row && item.has_old == 0 && item.has_new == 1);
+    WANT(sqlkeep_entry_item(session, 0, 1, &other) == SQLKEEP_OK && other.row == item.row + 2 && other.table == item.table);
+    WANT(is_integer(session, 0, 0, SQLKEEP_NEW, 0, 5) && is_text(session, 0, 0, SQLKEEP_NEW, 1, "x") && is_text(session, 0, 1, SQLKEEP_NEW, 1, "z"));
+    WANT(executed(session, "ALTER TABLE pile ADD CHECK (a < 6);", &outcome) == SQLKEEP_REFUSED && is_entry(session, 0, SQLKEEP_ENTRY_NOT_ADDED, 1));
+    WANT(is_name(session, 0, 0, "PILE_C1") && is_integer(session, 0, 0, SQLKEEP_NEW, 0, 6));
+    WANT(executed(session, "ALTER TABLE pile ADD CHECK (a < 7);", &outcome) == SQLKEEP_DONE && sqlkeep_entries(session, &count) == SQLKEEP_OK && count == 0);
+    return 0;
+}
+
 int main(void) {
     sqlkeep session = SQLKEEP_EMPTY;
     sqlkeep_outcome outcome;
@@ -256,6 +307,8 @@ int main(void) {
     failed = failed ? failed : skipped(&session);
     failed = failed ? failed : transition(&session);
     failed = failed ? failed : limits();
+    failed = failed ? failed : savepoints(&session);
+    failed = failed ? failed : not_added(&session);
     WANT(sqlkeep_close(&session) == SQLKEEP_OK);
     return failed ? failed : closed();
 }

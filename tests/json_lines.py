@@ -158,6 +158,8 @@ def entry_lines(entry):
         return [line, *('  ' + line for line in account_lines(entry['account']))]
     if entry['entry'] == 'failure':
         return [failure_text(entry)]
+    if entry['entry'] == 'savepoints':
+        return ['savepoints that stand: ' + ', '.join(entry['standing']) if entry['standing'] else 'no savepoint stands']
     row = '%s: %s row %d' % (constraint_text(entry), entry['table'], entry['row'])
     return [row + listed('', entry['values']) + reason_text(entry)]
 

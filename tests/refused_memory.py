@@ -10,7 +10,7 @@ for memory in it, and each time another request is refused. Each run has to be o
   same     the run is as without refusal: the memory was for speed alone
   refused  one statement answers 22, and all else is the transcript of the script without that statement, which is run too. It is never COMMIT or ROLLBACK, nor
            over the index store ROLLBACK TO, nor a statement that would be answered 4, 5 or 6
-  untold   with --explain, the run is as without refusal, but a COMMIT that is refused has no account, or the lines of what is pending are
+  untold   with --explain, the run is as without refusal, but a COMMIT or a ROLLBACK TO that is refused has no account, or the lines of what is pending are
            left out once: what came and what went then is told with the next ones
 
 Words with which no script is run are tried in the same way. 100 random scripts are run too, with ten of their requests refused. Without --all the plain one
@@ -40,6 +40,7 @@ MORE = [
     ('triggers that see later tables', 'triggers_see_later_tables'), ('actions on two columns', 'actions_on_two_columns'),
     ('savepoints by name', 'savepoint_names'),
     ('constraints that are added', 'refused_addition')]
+TOLD = [('savepoints with accounts', 'savepoints_explained'), ('constraints that are not added, with accounts', 'additions_explained')]
 RANDOM = 100
 REFUSED = re.compile(rb'\d+ refused 22 OutOfMemory( in [A-Z0-9_]+)?\n')
 ENDED = (b'', 2, b'sqlkeep: out of memory\n')
@@ -63,10 +64,13 @@ class Trial:
     def refusing(self, **how):
         return self.library.run(self.program, self.script, self.words, **how)
 
+    def ends_or_goes_back(self, place):
+        """Whether a statement is COMMIT, ROLLBACK or ROLLBACK TO."""
+        return cut.words(self.statements[place - 1])[0] in (b'COMMIT', b'ROLLBACK')
+
     def is_sure(self, place):
         """Whether a statement is never refused memory by its kind: COMMIT, ROLLBACK and, over the index store, ROLLBACK TO."""
-        words = cut.words(self.statements[place - 1])
-        return words[0] in (b'COMMIT', b'ROLLBACK') and not (self.is_plain and b'TO' in words)
+        return self.ends_or_goes_back(place) and not (self.is_plain and b'TO' in cut.words(self.statements[place - 1]))
 
     def would_be(self, place, earlier):
         """What a statement is answered with enough memory, after a run without the earlier statements that answered 22."""
@@ -85,13 +89,19 @@ class Trial:
         return text + b''.join(others) + (b'end rolled back\n' if self.shorter(places)[0].endswith(b'end rolled back\n') else b'')
 
 
-def untold(whole, out):
-    """Whether a transcript is another one in which a COMMIT that is refused has no account."""
-    outcomes, _, _ = run.groups(whole)
-    for outcome in outcomes:
-        line, _, account = outcome.partition(b'\n')
-        if account and re.match(rb'\d+ refused 19 ', line) and whole.replace(outcome, line + b'\n', 1) == out:
-            return True
+# A refused COMMIT with its account, and a refused ROLLBACK TO: what stands there without it.
+WITHOUT_ACCOUNT = [
+    (re.compile(rb'(\d+ refused 19 [^\n]*\n).+', re.S), rb'\1'),
+    (re.compile(rb'(\d+ refused 7 .*\n)  (?:savepoints that stand: .*|no savepoint stands)\n(  .*\n)'), rb'\1\2')]
+
+
+def untold(trial, out):
+    """Whether a transcript is another one in which a COMMIT or a ROLLBACK TO that is refused has no account."""
+    whole = trial.whole[0]
+    for place, outcome in enumerate(run.groups(whole)[0], 1):
+        for form, rest in WITHOUT_ACCOUNT:
+            if form.fullmatch(outcome) and trial.ends_or_goes_back(place) and whole.replace(outcome, form.sub(rest, outcome), 1) == out:
+                return True
     return False
 
 
@@ -115,7 +125,7 @@ def judge(trial, got, is_one):
     if got == trial.whole:
         return 'same', []
     out, status, errors = got
-    if '--explain' in trial.words and (status, errors) == trial.whole[1:] and (untold(trial.whole[0], out) or unlisted(trial, out)):
+    if '--explain' in trial.words and (status, errors) == trial.whole[1:] and (untold(trial, out) or unlisted(trial, out)):
         return 'untold', []
     outcomes, _, _ = run.groups(out)
     places = tuple(place for place, one in enumerate(outcomes, 1) if REFUSED.fullmatch(one))
@@ -144,6 +154,8 @@ def named(is_all):
     for name, file in SCRIPTS + (MORE if is_all else []):
         words = shlex.split((run.read('scripts', file + '.args') or b'').decode())
         yield name, run.stored('scripts', file + '.sql'), words
+    for name, file in TOLD:
+        yield name, run.stored('scripts', file + '.sql'), ['--explain']
     for file in run.files('../examples'):
         if file.endswith('.sql'):
             yield 'the tour: ' + file, run.read('../examples', file), []
@@ -191,7 +203,7 @@ def tried(library, program, is_plain, given):
             if why:
                 failed += 1
                 print('FAILED %s, %s over %s: %s' % (name, request, program, '; '.join(why)), flush=True)
-    print('%s: %d runs ended with the line, %d were as without refusal, %d had statements that answered 22, %d a COMMIT without its account or a statement without its lines of what is pending' % (
+    print('%s: %d runs ended with the line, %d were as without refusal, %d had statements that answered 22, %d a COMMIT or a ROLLBACK TO without its account or a statement without its lines of what is pending' % (
         os.path.basename(program), became['ended'], became['same'], became['refused'], became['untold']), flush=True)
     return sum(became.values()) - failed, failed
 

@@ -27,6 +27,8 @@ export function blocksOf(entries) {
       blocks.triggers.push({ ...entry, saw: [], statements: [] });
     } else if (entry.kind === "violation") {
       blocks.violations.push(entry);
+    } else if (entry.kind === "savepoints") {
+      blocks.notes.push(entry.standing.length > 0 ? `savepoints that stand: ${entry.standing.join(", ")}` : "no savepoint stands");
     } else {
       blocks.notes.push(entry.text ?? "");
     }

@@ -70,7 +70,7 @@ export class Panes {
   #draw() {
     const detail = this.#detail;
     this.#width = byId("detail").clientWidth;
-    const hasPicture = detail.account.some((entry) => entry.kind !== "note") || detail.wentBack.length > 0;
+    const hasPicture = detail.account.some((entry) => !["note", "savepoints"].includes(entry.kind)) || detail.wentBack.length > 0;
     byId("account").hidden = !hasPicture;
     ["deferred", "tables", "schema"].forEach((id) => byId(id).hidden = detail.schema.tables.size === 0);
     this.#drawAccount(detail, hasPicture);

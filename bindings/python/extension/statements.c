@@ -9,12 +9,13 @@
 
 #include <string.h>
 
-/* Restrict, Violation, ActionConflict and Signal: their accounts tell the rows. NumberOutOfRange and TextTooLong: what failed. And the
-   limits: the way that led there. */
+/* Restrict, Violation, ActionConflict, Signal and AddRefused: their accounts tell the rows. NumberOutOfRange and TextTooLong: what
+   failed. UnknownSavepoint: the savepoints that stand. And the limits: the way that led there. */
 #define TOLD_BY_ACCOUNT \
     ((1UL << SQLKEEP_CAUSE_RESTRICT) | (1UL << SQLKEEP_CAUSE_VIOLATION) | (1UL << SQLKEEP_CAUSE_ACTION_CONFLICT) | (1UL << SQLKEEP_CAUSE_SIGNAL) \
      | (1UL << SQLKEEP_CAUSE_NUMBER_OUT_OF_RANGE) | (1UL << SQLKEEP_CAUSE_TEXT_TOO_LONG) | (1UL << SQLKEEP_CAUSE_DEPTH_LIMIT) \
-     | (1UL << SQLKEEP_CAUSE_TOO_MANY_CHANGES) | (1UL << SQLKEEP_CAUSE_TRANSACTION_TOO_LARGE))
+     | (1UL << SQLKEEP_CAUSE_TOO_MANY_CHANGES) | (1UL << SQLKEEP_CAUSE_TRANSACTION_TOO_LARGE) | (1UL << SQLKEEP_CAUSE_ADD_REFUSED) \
+     | (1UL << SQLKEEP_CAUSE_UNKNOWN_SAVEPOINT))
 
 /* How many rows of a query are copied at once. */
 enum { MOST_COPIED = 1000 };

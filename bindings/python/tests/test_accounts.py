@@ -153,6 +153,23 @@ class ByHand(unittest.TestCase):
             found = session.execute("INSERT INTO t VALUES (?, 2)", (text,)).account
             self.assertEqual(found.events[1], Violation("C", "T", 1, (text, -1), "same key", other_row=2, other_values=(text, 2)))
 
+    def test_savepoints_that_stand(self):
+        found = sqlkeep.parse_account("  savepoints that stand: A, B_2\n  savepoint Z isn't there\n")
+        self.assertEqual(found.events, (sqlkeep.Savepoints(("A", "B_2")), sqlkeep.Reason("savepoint Z isn't there")))
+        self.assertEqual(found.savepoints, ("A", "B_2"))
+        self.assertEqual(sqlkeep.parse_account("  no savepoint stands\n").savepoints, ())
+        self.assertIsNone(sqlkeep.parse_account("  insert T row 1 (1)\n").savepoints)
+
+    def test_what_a_session_tells_of_savepoints_and_constraints(self):
+        session = sqlkeep.Session(explain=True)
+        session.execute("CREATE TABLE t (a INT)").check()
+        session.execute("INSERT INTO t VALUES (1), (1)").check()
+        session.execute("SAVEPOINT s").check()
+        self.assertEqual(session.execute("ROLLBACK TO SAVEPOINT r").account.savepoints, ("S",))
+        session.execute("COMMIT").check()
+        found = session.execute("ALTER TABLE t ADD CONSTRAINT one UNIQUE (a)").account
+        self.assertEqual(found.events, (Violation("ONE", "T", 1, (1,), "same key", other_row=2, other_values=(1,)),))
+
     def test_what_is_none(self):
         for text in (
             "insert T row 1 (1)\n", "  insert T row 1 (1)", "  insert T row x (1)\n", "  insert T row 1 (1\n", "    insert T row 1 (1)\n", "  nothing\n", "  C: T row 1 (5) is odd\n",

@@ -45,7 +45,7 @@ CAUSES = [
     ("CREATE TABLE t (a INT CONSTRAINT positive CHECK (a > 0) INITIALLY DEFERRED); INSERT INTO t VALUES (0);", "COMMIT", sqlkeep.IntegrityError, 19, "CommitRefused",
      "CommitRefused of POSITIVE: T row 1 (0) makes A > 0 false (0 > 0); the transaction is rolled back"),
     ("CREATE TABLE t (a INT); INSERT INTO t VALUES (0); COMMIT;", "ALTER TABLE t ADD CHECK (a > 0)", sqlkeep.IntegrityError, 20, "AddRefused",
-     "AddRefused: row 1: a row violates the constraint that ALTER TABLE adds"),
+     "AddRefused of T_C1 (CHECK): T row 1 (0) makes A > 0 false (0 > 0)"),
     ("", "CREATE TABLE t (a VARCHAR(4097))", sqlkeep.OperationalError, 21, "Limit", "Limit: column A is a VARCHAR(4097), and 4096 is the most"),
 ]
 

@@ -22,6 +22,7 @@ pub fn reasons(account: &[String], cause: Cause) -> Vec<String> {
     let is_told = |line: &&str| match cause {
         Cause::Unknown => line.ends_with(" isn't there"),
         Cause::Duplicate => line.ends_with(" is there already") || line.ends_with(" comes twice"),
+        Cause::UnknownSavepoint => line.starts_with("savepoint") || *line == "no savepoint stands",
         _ => (line.contains(": ") || is_measure(line)) && !is_event(line) && !is_action(line),
     };
     let mut found: Vec<String> = account.iter().rev().map(|line| line.trim_start()).take_while(is_told).map(str::to_owned).collect();

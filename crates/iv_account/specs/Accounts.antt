@@ -30,7 +30,7 @@ use Rattle.iv_account.specs.declared.entry.RowAction.{RowAction}
 use Rattle.iv_account.specs.declared.entry.TriggerView.{TriggerView}
 use Rattle.iv_account.specs.declared.entry.Disagreement.{Disagreement}
 use Rattle.iv_account.specs.declared.entry.Entry.{Entry}
-use Rattle.iv_account.specs.declared.entry.Entry.TheVariants.{Changed, Acted, Ran, Skipped, Began, Ended, Faulted, Disagreed, Failed}
+use Rattle.iv_account.specs.declared.entry.Entry.TheVariants.{Changed, Acted, Ran, Skipped, Began, Ended, Faulted, Disagreed, Failed, NotAdded}
 use Rattle.iv_account.specs.declared.failure.FailedEvaluation.{FailedEvaluation}
 use Rattle.iv_account.specs.Disagreements.{disagreement}
 use Rattle.iv_account.specs.Failures.{proposal_failure, set_failure, when_failure}
@@ -77,10 +77,13 @@ abbrev pub with_equal_row : List StoredRow → Option Constraint → StoredRow �
 with_equal_row rows None row = row ∷ []
 with_equal_row rows (Some constraint) row = row ∷ equal_row_by rows constraint.table constraint.rule row
 
--- the rows of a violation
+-- the rows of a violation of a constraint by the row of this number
+abbrev pub rows_of_violation : List StoredRow → Option Constraint → ℕ → List StoredRow
+rows_of_violation rows constraint number = elim (row_at rows number) [ Some row ↦ with_equal_row rows constraint row | None ↦ [] ]
+
+-- so of a constraint that the schema has
 abbrev pub rows_of_fault : Schema → List StoredRow → Fault → List StoredRow
-rows_of_fault schema rows fault =
-    elim (row_at rows fault.row) [ Some row ↦ with_equal_row rows (slice_get schema.constraints fault.constraint) row | None ↦ [] ]
+rows_of_fault schema rows fault = rows_of_violation rows (slice_get schema.constraints fault.constraint) fault.row
 
 -- a violation, with its rows
 abbrev pub fault_told : Schema → List StoredRow → Fault → Entry
@@ -89,6 +92,10 @@ fault_told schema rows fault = Faulted fault (rows_of_fault schema rows fault)
 -- the violations of these faults
 abbrev pub faults_told : Schema → List StoredRow → List Fault → List Entry
 faults_told schema rows faults = flat_map (λ fault. fault_told schema rows fault ∷ []) faults
+
+-- a constraint that isn't added since the row of this number violates it, with its rows
+abbrev pub not_added_told : List StoredRow → Constraint → ℕ → Entry
+not_added_told rows constraint number = NotAdded constraint (rows_of_violation rows (Some constraint) number)
 
 -- how a foreign key disagrees with an earlier one about a row of the later database, by what all foreign keys do to it
 abbrev pub disagreement_at : Schema → List StoredRow → List StoredRow → Fault → Option Disagreement

@@ -7,9 +7,9 @@ ghost use Rattle.iv_account.specs.declared.entry.Entry.TheVariants as entry;
 
 use crate::entry::{Disagreement, Entry, RowAction, SkippedView, TriggerView};
 use crate::failure::FailedEvaluation;
-use iv_catalogue::{Cause, Fault, Trigger};
+use iv_catalogue::{Cause, Constraint, Fault, Trigger};
 use iv_expr::{Change, Frame, Row, StoredRow};
-use iv_syntax::Granularity;
+use iv_syntax::{Granularity, Name};
 use iv_value::{Truth, Value};
 use sqlite_items::Items;
 use std::alloc::{AllocError, Global};
@@ -112,8 +112,12 @@ impl Drop for Account {
 
 impl Model for Account {
     ghost use Rattle.iv_account.specs.Telling.{Account as Told};
+    ghost use Rattle.iv_expr.specs.contracts.tree.Cond as cond;
+    ghost use Rattle.std.specs.Coded.{codes};
 
     ghost Value = { Told };
+
+    ghost coded = { Prim.hlevel (codes, cond.the_row.coded) };
 
     ghost view = { λ a. record { asked = a.asked; entries = a.entries.items; untold = a.untold } };
 }
@@ -255,6 +259,27 @@ impl Account {
             Some(how) => self.add(Entry::Disagreed(fault, Items::from_vec(rows), how)),
             None => self.faulted(fault, rows),
         }
+    }
+
+    /// Records that these savepoints stand, the earliest first.
+    pub fn standing(&mut self, names: Vec<Name>) -> Result<(), AllocError>
+        ensures told { OnOk result (self.new ≡ and_told self.old (entry.Standing names.items ∷ [])) }
+        ensures unasked { self.old.asked ≡ false → result ≡ Ok tt }
+    {
+        self.add(Entry::Standing(Items::from_vec(names)))
+    }
+
+    /// Records that a constraint isn't added, with these rows.
+    pub fn not_added(
+        &mut self,
+        constraint: Constraint,
+        rows: Vec<StoredRow>,
+    ) -> Result<(), AllocError>
+        ensures told { OnOk result (self.new ≡ and_told self.old
+            (entry.NotAdded constraint rows.items ∷ [])) }
+        ensures unasked { self.old.asked ≡ false → result ≡ Ok tt }
+    {
+        self.add(Entry::NotAdded(constraint, Items::from_vec(rows)))
     }
 
     // Records this failure, if the cause tells of one.

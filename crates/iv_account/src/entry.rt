@@ -1,8 +1,8 @@
 //! The entries of an account.
 use crate::failure::FailedEvaluation;
-use iv_catalogue::{ConstraintId, Fault, TriggerId};
+use iv_catalogue::{Constraint, ConstraintId, Fault, TriggerId};
 use iv_expr::{Change, Row, StoredRow, TableId};
-use iv_syntax::ReferentialAction;
+use iv_syntax::{Name, ReferentialAction};
 use iv_value::{Truth, Value};
 use sqlite_items::Items;
 
@@ -69,4 +69,9 @@ pub enum Entry {
     Disagreed(Fault, Items<StoredRow>, Disagreement),
     /// What failed, where the statement is refused because a number is out of range or a text is too long.
     Failed(FailedEvaluation),
+    /// The savepoints that stand, the earliest first, where the statement names one that isn't there.
+    Standing(Items<Name>),
+    /// The constraint that isn't added and the row that it is refused for: the row, and, if the constraint is a key, the
+    /// first other row with the same key. The catalogue doesn't have the constraint.
+    NotAdded(Constraint, Items<StoredRow>),
 }

@@ -1,12 +1,12 @@
 //! The rows that a violation is about.
-ghost use Rattle.std.specs.Prelude.{◌≡◌, [], ◌∷◌, ◌++◌, false, Ok, find, slice_get, IfOk, OnOk};
+ghost use Rattle.std.specs.Prelude.{◌≡◌, [], ◌∷◌, ◌++◌, false, Ok, Some, find, slice_get, IfOk, OnOk};
 ghost use Rattle.std.specs.Option.{option_copied};
-ghost use Rattle.iv_account.specs.Accounts.{equal_row_by, fault_told, if_some, rows_of_fault, with_equal_row};
+ghost use Rattle.iv_account.specs.Accounts.{equal_row_by, fault_told, if_some, not_added_told, rows_of_violation, with_equal_row};
 ghost use Rattle.iv_account.specs.Telling.{and_told};
 
 use crate::account::Account;
 use crate::equal::equal_row;
-use iv_catalogue::{Catalogue, Constraint, Fault, Rule};
+use iv_catalogue::{Catalogue, Constraint, Fault, Rule, copy_constraint};
 use iv_expr::{Rows, StoredRow};
 use iv_store::{ChangeableRows, ReferencingRows};
 use iv_syntax::NullTreatment;
@@ -63,18 +63,18 @@ fn with_equal_row<R: Rows>(
     Ok(found)
 }
 
-// The rows of a violation.
-fn rows_of_fault<K: ChangeableRows>(
+// The rows of a violation of a constraint by the row of this number.
+fn rows_of_violation<K: ChangeableRows>(
     store: &K,
-    catalogue: &Catalogue,
-    fault: &Fault,
+    constraint: Option<&Constraint>,
+    number: u64,
 ) -> Result<Vec<StoredRow>, AllocError>
     ensures { IfOk result (λ v. v.items
-        ≡ rows_of_fault catalogue.now (K.view store.now).base.rows fault.now) }
+        ≡ rows_of_violation (K.view store.now).base.rows (option_copied constraint.entry) number) }
 {
     let alloc = store.allocator();
-    match store.row(fault.row) {
-        Some(row) => with_equal_row(alloc, store, catalogue.constraint(fault.constraint), row),
+    match store.row(number) {
+        Some(row) => with_equal_row(alloc, store, constraint, row),
         None => Ok(Vec::new(alloc)),
     }
 }
@@ -95,7 +95,27 @@ impl Account {
         if !self.is_asked() {
             return Ok(());
         }
-        let rows = rows_of_fault(store, catalogue, fault)?;
+        let rows = rows_of_violation(store, catalogue.constraint(fault.constraint), fault.row)?;
         self.faulted(*fault, rows)
+    }
+
+    /// Records that a constraint isn't added to a store, as the row of this number violates it, with its rows. The
+    /// entry has a copy of the constraint. For a key it looks at rows as `violated` does.
+    pub fn refused_addition<K: ChangeableRows>(
+        &mut self,
+        store: &K,
+        constraint: &Constraint,
+        number: u64,
+    ) -> Result<(), AllocError>
+        ensures told { OnOk result (self.new ≡ and_told self.old
+            (not_added_told (K.view store.now).base.rows constraint.now number ∷ [])) }
+        ensures unasked { self.old.asked ≡ false → result ≡ Ok tt }
+    {
+        if !self.is_asked() {
+            return Ok(());
+        }
+        let rows = rows_of_violation(store, Some(constraint), number)?;
+        let copy = copy_constraint(store.allocator(), constraint)?;
+        self.not_added(copy, rows)
     }
 }

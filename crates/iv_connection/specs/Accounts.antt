@@ -1,7 +1,7 @@
 -- What C reads of an account, entry by entry and item by item. Places count from 0.
 use Rattle.std.specs.Prelude.{ℕ, zero, suc, Bool, List, length, is_some, if◌then◌else◌, slice_get, Option, Some, None, option_and_then, option_map}
 use Rattle.iv_account.specs.declared.entry.Entry.{Entry}
-use Rattle.iv_account.specs.declared.entry.Entry.TheVariants.{Changed, Acted, Ran, Skipped, Began, Ended, Faulted, Disagreed, Failed}
+use Rattle.iv_account.specs.declared.entry.Entry.TheVariants.{Changed, Acted, Ran, Skipped, Began, Ended, Faulted, Disagreed, Failed, Standing, NotAdded}
 use Rattle.iv_account.specs.declared.entry.Disagreement.{Disagreement}
 use Rattle.iv_account.specs.declared.failure.EvaluatedFor.{EvaluatedFor}
 use Rattle.iv_account.specs.declared.failure.EvaluatedFor.TheVariants.{When}
@@ -75,6 +75,15 @@ entry_shown (Faulted fault rows) = record no_entry { kind = 5; constraint = faul
 entry_shown (Disagreed fault rows how) = record no_entry { kind = 7; constraint = fault.constraint; items = length rows; row = fault.row }
 entry_shown (Failed f) =
     record no_entry { kind = 8; has_old = flag (is_some (hand_side f.row 0)); has_new = flag (is_some (hand_side f.row 1)); items = flag (is_some (hand_row f.row)) }
+entry_shown (Standing names) = record no_entry { kind = 9; items = length names }
+entry_shown (NotAdded k rows) = record no_entry { kind = 10; items = length rows }
+
+-- a name that the catalogue doesn't have: of the savepoint at this place, or on place 0 of the constraint that isn't added
+abbrev pub entry_name : Entry → ℕ → Option (List ℕ)
+entry_name (Standing names) item = slice_get names item
+entry_name (NotAdded k rows) zero = Some k.name
+entry_name (NotAdded k rows) (suc item) = None
+entry_name _ item = None
 
 -- the trigger that runs or is skipped, or whose WHEN failed
 abbrev pub entry_trigger : Schema → Entry → Option (List ℕ)
@@ -102,6 +111,7 @@ item_shown (Ran trigger seen) item = option_map change_shown (slice_get seen.tra
 item_shown (Faulted fault rows) item = option_map stored_shown (slice_get rows item)
 item_shown (Disagreed fault rows how) item = option_map stored_shown (slice_get rows item)
 item_shown (Failed f) item = option_map stored_shown (hand_item f.row item)
+item_shown (NotAdded k rows) item = option_map stored_shown (slice_get rows item)
 item_shown _ item = None
 
 abbrev pub change_side : ℕ → Change → Option (List Value)
@@ -114,6 +124,7 @@ item_values (Ran trigger seen) item side = option_and_then (change_side side) (s
 item_values (Faulted fault rows) item side = side_of None (option_map (λ r. r.values) (slice_get rows item)) side
 item_values (Disagreed fault rows how) item side = side_of None (option_map (λ r. r.values) (slice_get rows item)) side
 item_values (Failed f) item side = side_of None (option_map (λ r. r.values) (hand_item f.row item)) side
+item_values (NotAdded k rows) item side = side_of None (option_map (λ r. r.values) (slice_get rows item)) side
 item_values _ item side = None
 
 -- OLD, on side 0, and NEW, on side 1, of a trigger that runs or is skipped for a row
@@ -156,6 +167,9 @@ seen_value entries at side column =
 
 abbrev pub trigger_at_entry : Schema → List Entry → ℕ → Option (List ℕ)
 trigger_at_entry s entries at = option_and_then (entry_trigger s) (slice_get entries at)
+
+abbrev pub name_at_entry : List Entry → ℕ → ℕ → Option (List ℕ)
+name_at_entry entries at item = option_and_then (λ e. entry_name e item) (slice_get entries at)
 
 abbrev pub disagreement_at : List Entry → ℕ → Option Disagreement
 disagreement_at entries at = option_and_then how_in (slice_get entries at)

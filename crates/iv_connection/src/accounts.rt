@@ -1,6 +1,6 @@
 //! The account of the last statement, entry by entry.
 ghost use Rattle.std.specs.Prelude.{◌≡◌, ◌≢◌, length, slice_get, IfSome, Some, None, option_and_then, option_copied, option_map, is_some};
-ghost use Rattle.iv_connection.specs.Accounts.{change_shown, change_side, disagreement_at, disagreement_shown, entry_shown, entry_trigger, flag, hand_item, hand_row, hand_side, how_in, item_at, item_shown, item_value, item_values, row_action_shown, seen_value, seen_values, set_on, set_value, side_of, stored_shown, trigger_at_entry, unknown_flag, when_of};
+ghost use Rattle.iv_connection.specs.Accounts.{change_shown, change_side, disagreement_at, disagreement_shown, entry_name, entry_shown, entry_trigger, flag, hand_item, hand_row, hand_side, how_in, item_at, item_shown, item_value, item_values, name_at_entry, row_action_shown, seen_value, seen_values, set_on, set_value, side_of, stored_shown, trigger_at_entry, unknown_flag, when_of};
 ghost use Rattle.iv_connection.specs.Copying.{Copies};
 ghost use Rattle.iv_connection.specs.Cells.{text_of, cell_of};
 ghost use Rattle.iv_connection.specs.Statuses.{found};
@@ -18,6 +18,7 @@ use iv_account::{
 };
 use iv_catalogue::{Catalogue, Fault, TriggerId};
 use iv_expr::{Change, Row, StoredRow};
+use iv_syntax::Name;
 use iv_value::{Truth, Value};
 
 /// An entry in numbers, as `include/sqlkeep.h` names them.
@@ -225,6 +226,35 @@ pub fn entry_shown(entry: &Entry) -> ShownEntry
         Entry::Faulted(fault, rows) => fault_shown(5, fault, rows.len() as u64),
         Entry::Disagreed(fault, rows, _) => fault_shown(7, fault, rows.len() as u64),
         Entry::Failed(failed) => failed_shown(failed),
+        Entry::Standing(names) => counted(9, 0, names.len() as u64),
+        Entry::NotAdded(_, rows) => counted(10, 0, rows.len() as u64),
+    }
+}
+
+// The characters of the name at this place.
+fn name_in(names: &[Name], item: usize) -> Option<&[u8]>
+    ensures { option_copied result ≡ slice_get names.now item }
+{
+    match names.get(item) {
+        Some(name) => Some(name.as_str().as_bytes()),
+        None => None,
+    }
+}
+
+// A name that the catalogue doesn't have.
+fn entry_name(entry: &Entry, item: usize) -> Option<&[u8]>
+    ensures { option_copied result ≡ entry_name entry.now item }
+{
+    match entry {
+        Entry::Standing(names) => name_in(names.as_slice(), item),
+        Entry::NotAdded(constraint, _) => {
+            if item == 0 {
+                Some(constraint.name.as_str().as_bytes())
+            } else {
+                None
+            }
+        }
+        _ => None,
     }
 }
 
@@ -333,6 +363,7 @@ fn item_shown(entry: &Entry, item: usize) -> Option<ShownItem>
         Entry::Faulted(_, rows) => stored_item(rows.as_slice(), item),
         Entry::Disagreed(_, rows, _) => stored_item(rows.as_slice(), item),
         Entry::Failed(failed) => hand_shown(&failed.row, item),
+        Entry::NotAdded(_, rows) => stored_item(rows.as_slice(), item),
         _ => None,
     }
 }
@@ -399,6 +430,7 @@ fn item_values(entry: &Entry, item: usize, side: u32) -> Option<&[Value]>
         Entry::Faulted(_, rows) => stored_values(rows.as_slice(), item, side),
         Entry::Disagreed(_, rows, _) => stored_values(rows.as_slice(), item, side),
         Entry::Failed(failed) => hand_values(&failed.row, item, side),
+        Entry::NotAdded(_, rows) => stored_values(rows.as_slice(), item, side),
         _ => None,
     }
 }
@@ -506,6 +538,15 @@ pub fn entry_trigger_at(connection: &Connection, at: usize) -> Option<&[u8]>
 {
     match entry_at(connection, at) {
         Some(entry) => entry_trigger(connection.session.catalogue(), entry),
+        None => None,
+    }
+}
+
+pub fn entry_name_at(connection: &Connection, at: usize, item: usize) -> Option<&[u8]>
+    ensures { option_copied result ≡ name_at_entry connection.now.session.account.entries at item }
+{
+    match entry_at(connection, at) {
+        Some(entry) => entry_name(entry, item),
         None => None,
     }
 }

@@ -40,6 +40,7 @@ pub use accounts::copy_text;
 pub use accounts::disagreement_at;
 pub use accounts::disagreement_shown;
 pub use accounts::entry_at;
+pub use accounts::entry_name_at;
 pub use accounts::entry_shown;
 pub use accounts::entry_trigger_at;
 pub use accounts::item_at;

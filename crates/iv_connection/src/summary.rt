@@ -4,7 +4,7 @@ ghost use Rattle.iv_connection.specs.Scripts.{Shows};
 use iv_script::Summary;
 
 /// How many statements a run accepted and refused, how many of the refused had cause 22, where the script has its fault,
-/// and how many refused COMMITs have an empty account, since memory was refused for it.
+/// and how many refused COMMITs and ROLLBACK TOs have an empty account, since memory was refused for it.
 #[repr(C)]
 #[derive(Drop)]
 pub struct RunSummary {

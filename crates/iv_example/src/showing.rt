@@ -107,6 +107,8 @@ fn show_entry(rt: &HostRuntime, catalogue: &Catalogue, entry: &Entry) -> io::Res
         Entry::Faulted(fault, _) => show_fault(rt, catalogue, fault),
         Entry::Disagreed(fault, _, _) => show_fault(rt, catalogue, fault),
         Entry::Failed(_) => println!(rt; "a number is out of range, or a text is too long"),
+        Entry::Standing(names) => println!(rt; "savepoints that stand: {}", names.len()),
+        Entry::NotAdded(constraint, _) => println!(rt; "{} isn't added", constraint.name.as_str()),
     }
 }
 

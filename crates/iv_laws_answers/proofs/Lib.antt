@@ -12,3 +12,4 @@ mod NoViolations
 mod Telling
 mod FailuresFound
 mod FailuresOfStatements
+mod RefusalsTold

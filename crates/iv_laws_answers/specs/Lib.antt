@@ -5,3 +5,4 @@ pub mod FittingStates
 pub mod Shapes
 pub mod AccountLaws
 pub mod FailureLaws
+pub mod RefusalLaws

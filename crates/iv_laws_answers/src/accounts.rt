@@ -1,5 +1,6 @@
 //! Laws of accounts, each as the contract of a function that does nothing.
 ghost use Rattle.iv_laws_answers.specs.FailureLaws.{ProposalFailuresAreFound, QueryFailuresAreFound, SetFailuresAreFound, WhenFailuresAreFound};
+ghost use Rattle.iv_laws_answers.specs.RefusalLaws.{AcceptedAdditionsAreNotTold, OtherSavepointsAreNotTold, RefusedAdditionsAreTold, StandingSavepointsAreTold};
 ghost use Rattle.iv_laws_answers.specs.AccountLaws.{LevelsAreTold, StatementsAreTold, AllThatBeginsEnds, NoViolationOfAccepted, OneViolationOfRefused};
 
 /// The waves of an accepted data statement's account, applied one after another, give the database that the statement
@@ -26,4 +27,16 @@ pub fn failures_are_found()
     ensures when { WhenFailuresAreFound }
     ensures set { SetFailuresAreFound }
     ensures query { QueryFailuresAreFound }
+{}
+
+/// RELEASE and ROLLBACK TO tell the savepoints that stand exactly if the one that they name isn't there.
+pub fn standing_savepoints_are_told()
+    ensures missing { StandingSavepointsAreTold }
+    ensures there { OtherSavepointsAreNotTold }
+{}
+
+/// ALTER TABLE tells a constraint and the row that violates it exactly if it is refused for that row.
+pub fn refused_additions_are_told()
+    ensures refused { RefusedAdditionsAreTold }
+    ensures accepted { AcceptedAdditionsAreNotTold }
 {}

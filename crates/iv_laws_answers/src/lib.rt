@@ -6,6 +6,7 @@ mod laws;
 
 pub use accounts::{
     accounts_lead_on, accounts_tell_violations, all_that_begins_ends, failures_are_found,
+    refused_additions_are_told, standing_savepoints_are_told,
 };
 pub use laws::{
     answers_want_no_memory, checks_are_well_typed, data_statements_want_no_memory,

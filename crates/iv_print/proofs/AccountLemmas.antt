@@ -4,7 +4,7 @@ use Rattle.iv_catalogue.specs.Catalogues.{Schema}
 use Rattle.iv_catalogue.specs.declared.cause.Refusal.{Refusal}
 use Rattle.iv_machine.specs.declared.answer.Answer.{Answer}
 use Rattle.iv_account.specs.declared.entry.Entry.{Entry}
-use Rattle.iv_account.specs.declared.entry.Entry.TheVariants.{Changed, Acted, Ran, Skipped, Began, Ended, Faulted, Disagreed, Failed}
+use Rattle.iv_account.specs.declared.entry.Entry.TheVariants.{Changed, Acted, Ran, Skipped, Began, Ended, Faulted, Disagreed, Failed, Standing, NotAdded}
 use Rattle.iv_print.specs.AccountLines.{spaces, depth_after, entry_text, entries_text}
 
 pub spaces_step : (depth : ℕ) → 0 < depth → spaces depth ≡ codes "  " ++ spaces (depth - 1)
@@ -22,6 +22,8 @@ depth_grows depth Ended = omega arith
 depth_grows depth (Faulted fault rows) = omega arith
 depth_grows depth (Disagreed fault rows how) = omega arith
 depth_grows depth (Failed f) = omega arith
+depth_grows depth (Standing names) = omega arith
+depth_grows depth (NotAdded k rows) = omega arith
 
 pub depth_bounded : (depth most : ℕ) (entry : Entry) (all rest : List Entry) → depth + length all ≤ most → all ≡ entry ∷ rest
     → depth_after depth entry + length rest ≤ most

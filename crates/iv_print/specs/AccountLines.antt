@@ -30,7 +30,7 @@ use Rattle.iv_account.specs.declared.entry.TriggerView.{TriggerView}
 use Rattle.iv_account.specs.declared.entry.SkippedView.{SkippedView}
 use Rattle.iv_account.specs.declared.entry.Disagreement.{Disagreement}
 use Rattle.iv_account.specs.declared.entry.Entry.{Entry}
-use Rattle.iv_account.specs.declared.entry.Entry.TheVariants.{Changed, Acted, Ran, Skipped, Began, Ended, Faulted, Disagreed, Failed}
+use Rattle.iv_account.specs.declared.entry.Entry.TheVariants.{Changed, Acted, Ran, Skipped, Began, Ended, Faulted, Disagreed, Failed, Standing, NotAdded}
 use Rattle.iv_account.specs.declared.failure.Operator.{Operator}
 use Rattle.iv_account.specs.declared.failure.Operator.TheVariants.{Plus, Minus, Times}
 use Rattle.iv_account.specs.declared.failure.ValueFailure.{ValueFailure}
@@ -210,6 +210,12 @@ fault_line s outcome depth constraint rows =
     ++ (described_text s (slice_get s.constraints constraint)
     ++ (codes ": " ++ (fault_rows_text s outcome (slice_get s.constraints constraint) rows ++ codes "\n")))
 
+-- a constraint that isn't added, in the words of a violation
+abbrev pub not_added_line : Schema → Result Answer Refusal → ℕ → Constraint → List StoredRow → List ℕ
+not_added_line s outcome depth k rows =
+    indent depth
+    ++ (described_text s (Some k) ++ (codes ": " ++ (fault_rows_text s outcome (Some k) rows ++ codes "\n")))
+
 -- ---- foreign keys that disagree
 
 -- the key to which a row of these values refers by a rule, if that is a foreign key
@@ -249,6 +255,20 @@ abbrev pub conflict_line : Schema → ℕ → ℕ → List StoredRow → Disagre
 conflict_line s depth constraint rows how =
     indent depth
     ++ (described_text s (slice_get s.constraints constraint) ++ (codes ": " ++ (conflict_text s constraint rows how ++ codes "\n")))
+
+-- ---- savepoints
+
+-- a name after another
+abbrev pub further_savepoint : List ℕ → List ℕ
+further_savepoint name = codes ", " ++ name
+
+-- the savepoints that stand
+abbrev pub standing_words : List (List ℕ) → List ℕ
+standing_words [] = codes "no savepoint stands"
+standing_words (name ∷ names) = codes "savepoints that stand: " ++ (name ++ flat_map further_savepoint names)
+
+abbrev pub standing_line : ℕ → List (List ℕ) → List ℕ
+standing_line depth names = indent depth ++ (standing_words names ++ codes "\n")
 
 -- ---- numbers out of range, and texts that are too long
 
@@ -306,6 +326,8 @@ entry_text s outcome depth Ended further = []
 entry_text s outcome depth (Faulted fault rows) further = fault_line s outcome depth fault.constraint rows
 entry_text s outcome depth (Disagreed fault rows how) further = conflict_line s depth fault.constraint rows how
 entry_text s outcome depth (Failed f) further = failure_line s depth f
+entry_text s outcome depth (Standing names) further = standing_line depth names
+entry_text s outcome depth (NotAdded k rows) further = not_added_line s outcome depth k rows
 
 -- the lines of entries, of which the first is at this depth
 abbrev pub entries_text : Schema → Result Answer Refusal → ℕ → List Entry → List ℕ

@@ -27,7 +27,7 @@ use Rattle.iv_account.specs.declared.entry.TriggerView.{TriggerView}
 use Rattle.iv_account.specs.declared.entry.SkippedView.{SkippedView}
 use Rattle.iv_account.specs.declared.entry.Disagreement.{Disagreement}
 use Rattle.iv_account.specs.declared.entry.Entry.{Entry}
-use Rattle.iv_account.specs.declared.entry.Entry.TheVariants.{Changed, Acted, Ran, Skipped, Began, Ended, Faulted, Disagreed, Failed}
+use Rattle.iv_account.specs.declared.entry.Entry.TheVariants.{Changed, Acted, Ran, Skipped, Began, Ended, Faulted, Disagreed, Failed, Standing, NotAdded}
 use Rattle.iv_account.specs.declared.failure.Operator.{Operator}
 use Rattle.iv_account.specs.declared.failure.Operator.TheVariants.{Plus, Minus, Times}
 use Rattle.iv_account.specs.declared.failure.ValueFailure.{ValueFailure}
@@ -329,6 +329,28 @@ abbrev pub failure_entry : Schema → FailedEvaluation → List ℕ
 failure_entry s f =
     entry_key (codes "failure") ++ (part_members s f.part ++ (hand_members s f.row ++ (failure_members f.failure ++ codes "}")))
 
+-- so of a constraint that the schema doesn't have
+abbrev pub described_members_of : Schema → Constraint → List ℕ
+described_members_of s k = member (codes "constraint") ++ (json_text k.name ++ asked_member s (Some k))
+
+-- a constraint that isn't added, in the members of a violation
+abbrev pub not_added_entry : Schema → Result Answer Refusal → Constraint → List StoredRow → List ℕ
+not_added_entry s outcome k rows =
+    entry_key (codes "not_added") ++ (described_members_of s k ++ (violation_members s outcome (Some k) rows ++ codes "}"))
+
+-- names after one another
+abbrev pub further_name : List ℕ → List ℕ
+further_name name = codes "," ++ json_text name
+
+abbrev pub json_names : List (List ℕ) → List ℕ
+json_names [] = []
+json_names (name ∷ names) = json_text name ++ flat_map further_name names
+
+-- the savepoints that stand
+abbrev pub standing_entry : List (List ℕ) → List ℕ
+standing_entry names =
+    entry_key (codes "savepoints") ++ (member (codes "standing") ++ (codes "[" ++ (json_names names ++ codes "]}")))
+
 -- an entry before these further entries
 abbrev pub json_entry : Schema → Result Answer Refusal → Entry → List Entry → List ℕ
 json_entry s outcome (Changed changes) further = changed_entry s changes
@@ -340,6 +362,8 @@ json_entry s outcome Ended further = codes "]}"
 json_entry s outcome (Faulted fault rows) further = violation_entry s outcome fault.constraint rows
 json_entry s outcome (Disagreed fault rows how) further = conflict_entry s fault.constraint rows how
 json_entry s outcome (Failed f) further = failure_entry s f
+json_entry s outcome (Standing names) further = standing_entry names
+json_entry s outcome (NotAdded k rows) further = not_added_entry s outcome k rows
 
 -- what stands between an entry and what is before it: a comma, unless it is the first of its array, or ends one
 abbrev pub separator : Bool → Entry → List ℕ

@@ -9,6 +9,7 @@ ghost use Rattle.iv_print.specs.Writing.{Writes};
 ghost use Rattle.iv_print.specs.Lines.{value_text, further_text, values_text};
 ghost use Rattle.iv_print.specs.AccountLines.{spaces, indent, table_name, column_name_in, numbered_text, listed_text, side_text, verb, sides_text, change_text, change_line, change_lines, action_words, action_line, action_lines, asked_text, ran_lines, truth_name, skipped_line, nothing_text, began_line, reference_words_of, referenced_text, reference_text, equal_text, key_text, null_text, rule_text, constraint_rule_text, fault_rows_text, fault_line, ends_next, entry_text, entries_text, account_text};
 
+use crate::addition::write_not_added;
 use crate::check::write_check;
 use crate::conflict::write_conflict;
 use crate::device::{DeviceFault, Sink};
@@ -16,6 +17,7 @@ use crate::failure::write_failure;
 use crate::names::{column_in, table_in};
 use crate::outcome::{write_borrowed, write_name, write_row_number, write_trigger, write_values};
 use crate::rule::write_described;
+use crate::standing::write_standing;
 use crate::way::{depth_after, write_limit_line};
 use crate::write::{write_all, write_nothing, write_number};
 use iv_account::{Entry, RowAction, SkippedView, TriggerView};
@@ -473,8 +475,8 @@ fn write_null<W: Sink>(
     write_column(sink, catalogue, table, u64::from(column))
 }
 
-// What a rule finds wrong with a row.
-fn write_rule<W: Sink>(
+/// What a rule finds wrong with a row.
+pub(crate) fn write_rule<W: Sink>(
     sink: &mut W,
     catalogue: &Catalogue,
     outcome: &Result<Answer, Refusal>,
@@ -608,6 +610,10 @@ fn write_entry<W: Sink>(
             how,
         ),
         Entry::Failed(failed) => write_failure(sink, catalogue, depth, failed),
+        Entry::Standing(names) => write_standing(sink, depth, names.as_slice()),
+        Entry::NotAdded(constraint, rows) => {
+            write_not_added(sink, catalogue, outcome, depth, constraint, rows.as_slice())
+        }
     }
 }
 

@@ -17,9 +17,11 @@ use crate::json::{
     write_borrowed, write_json_text, write_key, write_member, write_name, write_number_member,
     write_row, write_text_member, write_trigger_name,
 };
+use crate::json_addition::write_not_added;
 use crate::json_conflict::write_conflict;
 use crate::json_failure::write_failure;
 use crate::json_rule::write_described;
+use crate::json_standing::write_standing;
 use crate::json_way::write_limit_entry;
 use crate::names::{column_in, table_in};
 use crate::way::depth_after;
@@ -418,8 +420,8 @@ fn write_null<W: Sink>(
     write_column(sink, catalogue, table, u64::from(column))
 }
 
-// What a rule finds wrong with a row.
-fn write_rule<W: Sink>(
+/// What a rule finds wrong with a row.
+pub(crate) fn write_rule<W: Sink>(
     sink: &mut W,
     catalogue: &Catalogue,
     outcome: &Result<Answer, Refusal>,
@@ -672,6 +674,10 @@ fn write_entry<W: Sink>(
             write_conflict(sink, catalogue, fault.constraint, rows.as_slice(), how)
         }
         Entry::Failed(failed) => write_failure(sink, catalogue, failed),
+        Entry::Standing(names) => write_standing(sink, names.as_slice()),
+        Entry::NotAdded(constraint, rows) => {
+            write_not_added(sink, catalogue, outcome, constraint, rows.as_slice())
+        }
     }
 }
 

@@ -28,7 +28,8 @@ fn write_words<W: Sink>(
     write_all(sink, b"\"")
 }
 
-fn write_asked_of<W: Sink>(
+/// What a constraint asks, if it is there.
+pub(crate) fn write_asked_of<W: Sink>(
     sink: &mut W,
     catalogue: &Catalogue,
     constraint: Option<&Constraint>,

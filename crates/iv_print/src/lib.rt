@@ -2,6 +2,7 @@
 #![tactic(auto, using(crate::proofs::WriteLemmas::writes_then))]
 
 mod account;
+mod addition;
 mod buffered;
 mod cause;
 mod check;
@@ -12,9 +13,11 @@ mod failure;
 mod format;
 mod json;
 mod json_account;
+mod json_addition;
 mod json_conflict;
 mod json_failure;
 mod json_rule;
+mod json_standing;
 mod json_way;
 mod names;
 mod outcome;
@@ -23,6 +26,7 @@ mod rule;
 mod spelled;
 mod spelled_number;
 mod spelled_value;
+mod standing;
 mod way;
 mod write;
 

@@ -424,7 +424,8 @@ fn write_words_if<W: Sink>(
     }
 }
 
-fn write_named<W: Sink>(
+/// A constraint by its name, and what it asks, if the name was generated.
+pub(crate) fn write_named<W: Sink>(
     sink: &mut W,
     catalogue: &Catalogue,
     constraint: &Constraint,
@@ -452,7 +453,7 @@ fn write_if_there<W: Sink>(
     }
 }
 
-/// A constraint by its name, and what it asks, if the name was generated.
+/// A constraint of the catalogue by its name, and what it asks, if the name was generated.
 pub(crate) fn write_described<W: Sink>(
     sink: &mut W,
     catalogue: &Catalogue,

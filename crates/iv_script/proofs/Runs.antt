@@ -17,7 +17,7 @@ use Rattle.iv_machine.specs.Machine.{State, Outcome, IsMemoryRefusal, MemoryRefu
 use Rattle.iv_resolution.specs.Resolution.{resolution}
 use Rattle.iv_step.specs.Step.{Executes, step, takes_no_memory}
 use Rattle.iv_step.specs.Sure.{is_rollback_to, never_refused}
-use Rattle.iv_step.specs.Telling.{Tells, commits, statement_told}
+use Rattle.iv_step.specs.Telling.{Tells, may_be_untold, statement_told}
 use Rattle.iv_print.specs.declared.format.Style.{Style}
 use Rattle.iv_print.specs.Sinks.{SinkState, FailsNever}
 use Rattle.iv_print.specs.Writing.{Writes}
@@ -106,15 +106,15 @@ did_told sure_back asked old new listed st r account n m e told k = by (asked &&
   by false b k = with_news (k.0 ∙ ap (λ b. news_where b granted listed new) (sym b)) k.1
 
 did_plain : (sure_back asked : Bool) (old new : State) (listed : List Fault) (st : Statement) (r : Result Answer Refusal) (account : Account) (n : News) → is_memory r ≡ false
-    → (r ≡ (step old st).answer) × (new ≡ (step old st).state) → MayTell (commits (resolution old.schema st)) (no_account asked) account (statement_told old st)
+    → (r ≡ (step old st).answer) × (new ≡ (step old st).state) → MayTell (may_be_untold (resolution old.schema st)) (no_account asked) account (statement_told old st)
     → AreNews (asked && is_open new) (is_memory r || account.untold) listed new n → Did sure_back asked old new listed st r account n
-did_plain sure_back asked old new listed st r account n m e told k = by (commits (resolution old.schema st)) refl told where
+did_plain sure_back asked old new listed st r account n m e told k = by (may_be_untold (resolution old.schema st)) refl told where
   as_told : account ≡ told_alone asked (statement_told old st) → Did sure_back asked old new listed st r account n
   as_told told =
       did_told sure_back asked old new listed st r account n m e told
       (subst (λ b. AreNews (asked && is_open new) b listed new n) (ap (λ b. b || account.untold) m ∙ ap (λ (x : Account). x.untold) told) k)
 
-  by : (b : Bool) → commits (resolution old.schema st) ≡ b → MayTell b (no_account asked) account (statement_told old st) → Did sure_back asked old new listed st r account n
+  by : (b : Bool) → may_be_untold (resolution old.schema st) ≡ b → MayTell b (no_account asked) account (statement_told old st) → Did sure_back asked old new listed st r account n
   by false c told = as_told told
   by true c (inl told) = as_told told
   by true c (inr none) =

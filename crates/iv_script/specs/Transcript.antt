@@ -16,7 +16,7 @@ use Rattle.iv_account.specs.declared.entry.Entry.{Entry}
 use Rattle.iv_step.specs.Pending.{pending, violations_told, without}
 use Rattle.iv_step.specs.Step.{step}
 use Rattle.iv_step.specs.Sure.{never_refused}
-use Rattle.iv_step.specs.Telling.{commits, statement_told}
+use Rattle.iv_step.specs.Telling.{may_be_untold, statement_told}
 use Rattle.iv_print.specs.AccountLines.{account_text}
 use Rattle.iv_print.specs.Lines.{first_line, row_lines}
 use Rattle.iv_print.specs.PendingLines.{pending_lines}
@@ -56,7 +56,7 @@ refused_of (Ok a) = 0
 refused_of (Err r) = 1
 
 -- For a statement: it has the memory that it takes; or memory is refused, in this trigger or outside of every one; or it is refused to
--- the account of a COMMIT alone, or to the lines of what is pending alone.
+-- the account of a COMMIT or of a ROLLBACK TO SAVEPOINT alone, or to the lines of what is pending alone.
 pub data Memory : Type 0 where
   granted : Memory
   denied : Option ℕ → Memory
@@ -80,11 +80,12 @@ outcome unlisted s st = step s st
 
 -- Memory is refused only to a statement that takes some: not to COMMIT or ROLLBACK, nor to one that is refused for the transaction
 -- that is open or isn't, nor to ROLLBACK TO SAVEPOINT, where that is sure to take none. It is refused to an account alone only where the
--- account is of a COMMIT, and is asked for; and to the lines of what is pending only inside a transaction, where they are asked for.
+-- account is of a COMMIT or of a ROLLBACK TO SAVEPOINT, and is asked for; and to the lines of what is pending only inside a transaction,
+-- where they are asked for.
 abbrev pub IsDue : Bool → Bool → Memory → State → Statement → Type 0
 IsDue sure_back asked granted s st = Unit {0}
 IsDue sure_back asked (denied trigger) s st = never_refused sure_back s st ≡ false
-IsDue sure_back asked untold s st = (asked ≡ true) × (commits (resolution s.schema st) ≡ true)
+IsDue sure_back asked untold s st = (asked ≡ true) × (may_be_untold (resolution s.schema st) ≡ true)
 IsDue sure_back asked unlisted s st = (asked ≡ true) × (is_open (step s st).state ≡ true)
 
 -- what is told of a statement, where an account is asked for
@@ -227,7 +228,7 @@ memory_refusals (granted ∷ ms) = memory_refusals ms
 memory_refusals (untold ∷ ms) = memory_refusals ms
 memory_refusals (unlisted ∷ ms) = memory_refusals ms
 
--- how many accounts of COMMITs, and lines of what is pending, are refused memory
+-- how many accounts of statements that go on without one, and lines of what is pending, are refused memory
 abbrev pub untold_accounts : List Memory → ℕ
 untold_accounts [] = 0
 untold_accounts (untold ∷ ms) = 1 + untold_accounts ms
@@ -241,7 +242,8 @@ fault_place summary = summary.fault
 
 -- The transcript of these bytes was appended, and the summary says how many statements were
 -- accepted and refused, and the fault. For each statement that takes memory it is chosen whether it
--- is refused it, and as many are as the summary says; so for each account of a COMMIT, and for the lines of what is pending.
+-- is refused it, and as many are as the summary says; so for each account of a COMMIT or a ROLLBACK TO
+-- SAVEPOINT, and for the lines of what is pending.
 pub record RanScript (sure_back : Bool) (bytes : List ℕ) (limits : Bounds) (style : Style) (summary : Summary)
     (before after : SinkState) : Type 0 where
   pub statements : List Statement

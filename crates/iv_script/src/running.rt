@@ -158,7 +158,7 @@ fn run_bytes<S: Executor + Drop, W: Sink>(
 ///
 /// A statement that is refused memory has an outcome of its own, with cause 22; the
 /// summary's `memory_refused` counts these, and `refused` counts them too. A COMMIT is never refused memory: where memory is
-/// refused for its account, that is empty, and `untold` counts it. Inside a transaction a statement tells which violations
+/// refused for its account, or for that of a ROLLBACK TO, that is empty, and `untold` counts it. Inside a transaction a statement tells which violations
 /// of deferred constraints came and went; where memory is refused for that, these lines are left out, the next ones tell the
 /// difference from those that were told last, and `untold` counts it. After `RunFault::Write` nothing
 /// is said of how much was written.

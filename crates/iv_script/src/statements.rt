@@ -16,7 +16,7 @@ use iv_step::{Executor, Outcome, is_memory_refused};
 use iv_syntax::Statement;
 
 /// How many statements were accepted and refused, how many of the refused had cause 22, and for how many accounts of
-/// COMMITs and lines of what is pending memory was refused.
+/// COMMITs and ROLLBACK TOs and lines of what is pending memory was refused.
 #[derive(Clone, Copy, Debug, PartialEq, Eq)]
 pub struct Tally {
     pub accepted: u64,

@@ -7,8 +7,8 @@ use std::alloc::AllocError;
 use thiserror::Error;
 
 /// How many statements were accepted and refused, how many of the refused had cause 22, the fault of the script where it
-/// has one, and how many refused COMMITs have an empty account, or statements no lines of what is pending, since memory was
-/// refused for it.
+/// has one, and how many refused COMMITs and ROLLBACK TOs have an empty account, or statements no lines of what is pending,
+/// since memory was refused for it.
 #[derive(Clone, Copy, Debug, PartialEq, Eq)]
 pub struct Summary {
     pub accepted: u64,

@@ -6,7 +6,7 @@ ghost use Rattle.iv_resolution.specs.Resolution.{resolution};
 ghost use Rattle.iv_account.specs.Telling.{MayTell};
 ghost use Rattle.iv_step.specs.Step.{Executes, step, takes_no_memory};
 ghost use Rattle.iv_step.specs.Sure.{is_rollback_to};
-ghost use Rattle.iv_step.specs.Telling.{Tells, commits, resolution_told, statement_told};
+ghost use Rattle.iv_step.specs.Telling.{Tells, may_be_untold, resolution_told, statement_told};
 ghost use Rattle.iv_state.specs.Performing.{Runs};
 ghost use Rattle.iv_session.specs.RunningAll.{AllExecuted, IsRunOf};
 ghost use Rattle.iv_session.specs.FewLookups.{FewLookups, defines_schema};
@@ -32,7 +32,7 @@ impl<K: Keeper + Drop> Session<K> {
         ensures looked_up { defines_schema statement.now ≡ false
             → UnlessMemory result (LooksUpFew self.old self.new) }
         ensures told { MatchBool (is_memory result) (Unit {0})
-            (MayTell (commits (resolution self.old.state.schema statement.now))
+            (MayTell (may_be_untold (resolution self.old.state.schema statement.now))
             self.old.account self.new.account
             (resolution_told self.old.state (resolution self.old.state.schema statement.now))) }
     {
@@ -54,7 +54,7 @@ impl<K: Keeper + Drop> Session<K> {
         ensures sure_store { K.sure ≡ true → is_rollback_to statement.now ≡ true
             → is_memory result ≡ false }
         ensures told { MatchBool (is_memory result) (Unit {0})
-            (MayTell (commits (resolution self.old.state.schema statement.now))
+            (MayTell (may_be_untold (resolution self.old.state.schema statement.now))
             self.old.account self.new.account (statement_told self.old.state statement.now)) }
     {
         if let Some(cause) = self.state.transaction_cause(statement) {
@@ -65,6 +65,8 @@ impl<K: Keeper + Drop> Session<K> {
             Statement::Rollback => self.state.rollback_statement(),
             Statement::RollbackTo(name) => {
                 if is_writable(statement) {
+                    self.state
+                        .tell_rollback_to(name.as_str(), &mut self.account);
                     self.state.rollback_to(name.as_str())
                 } else {
                     self.state.refuse_now(Cause::Limit)
@@ -91,7 +93,7 @@ impl<K: Keeper + Drop> Session<K> {
         // a store that counts no look-up
         ensures not_looked_up { ((store : K) → K.lookups store ≡ 0) → self.new.lookups ≡ 0 }
         ensures told { MatchBool (is_memory result) (Unit {0})
-            (MayTell (commits (resolution self.old.state.schema statement.now))
+            (MayTell (may_be_untold (resolution self.old.state.schema statement.now))
             self.old.account self.new.account (statement_told self.old.state statement.now)) }
     {
         let looked_up = self.state.looked_up();
@@ -102,7 +104,7 @@ impl<K: Keeper + Drop> Session<K> {
 
     /// Runs a statement. The answer, the next state and the work are the machine's, or an allocation failed and the
     /// state is as before. If an account is asked for, it records what happens, in time and memory in proportion to it.
-    /// If the account of a COMMIT can't be allocated, it is empty, and the COMMIT goes on.
+    /// If the account of a COMMIT or a ROLLBACK TO SAVEPOINT can't be allocated, it is empty, and the statement goes on.
     pub fn execute(&mut self, statement: &Statement) -> Outcome
         ensures step { Executes self.old.state statement.now result self.new.state }
         ensures sure { takes_no_memory self.old.state statement.now ≡ true

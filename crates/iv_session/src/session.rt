@@ -97,8 +97,8 @@ impl<K: Keeper + Drop> Session<K> {
         self.account.entries()
     }
 
-    /// Whether the last statement or call was a COMMIT whose account could not be allocated. That account is then
-    /// empty; otherwise it has every violation.
+    /// Whether the last statement or call was a COMMIT or a ROLLBACK TO SAVEPOINT whose account could not be allocated.
+    /// That account is then empty; otherwise it is whole.
     pub fn is_untold(&self) -> bool
         ensures { result ≡ self.now.account.untold }
     {

@@ -21,6 +21,13 @@ use Rattle.iv_laws_rows.specs.RowFits.{row_fits, rows_fit}
 use Rattle.iv_state.specs.Fits.{adding_refusal}
 use Rattle.iv_store.specs.declared.fault.AddFault.{AddFault}
 use Rattle.iv_store.specs.declared.fault.AddFault.TheVariants as fault
+use Rattle.iv_account.specs.declared.entry.Entry.{Entry}
+use Rattle.iv_account.specs.Accounts.{not_added_told, told_or}
+use Rattle.iv_account.specs.Sessions.{addition_refused_told, addition_told}
+use Rattle.iv_account.specs.Telling.{Account, and_told}
+use Rattle.iv_laws_rows.specs.Changing.{UnlessMemory}
+use Rattle.iv_state.specs.Telling.{TellsAddition}
+use Rattle.iv_state.proofs.Told.{nothing_told}
 use Rattle.iv_state.proofs.Performed.{refuse_performs}
 use Rattle.iv_step.specs.Step.{Executes, step}
 use Rattle.iv_state.proofs.Fitting.{runs_as}
@@ -103,6 +110,30 @@ added_refused h k (fault.Row n) x a kept e w =
     refuse_performs (state_of h) (add_constraint_outcome (state_of h) k) (AddRefused n) (Err (adding_refusal (fault.Row n))) x
     (add_is h k kept ∙ ap (by_row (state_of h) k) a) refl refl e w
 added_refused h k fault.NoMemory x a kept e w = (e, refl)
+
+-- what is told by the first row that violates the constraint
+abbrev told_by_row : List StoredRow → Constraint → Option ℕ → List Entry
+told_by_row rows k None = []
+told_by_row rows k (Some n) = not_added_told rows k n ∷ []
+
+of_row : (s : State) (k : Constraint) (o : Option ℕ)
+    → told_or (by_row s k o).answer (λ refusal. addition_refused_told s.database.rows k refusal.cause) (λ _. []) ≡ told_by_row s.database.rows k o
+of_row s k None = refl
+of_row s k (Some n) = refl
+
+addition_is_told : (h : Parts) (k : Constraint) (o : Option ℕ) → Kept h → first_violating_row h.store k ≡ o → addition_told (state_of h) k ≡ told_by_row h.store.base.rows k o
+addition_is_told h k o kept e =
+    ap (λ (x : Outcome). told_or x.answer (λ refusal. addition_refused_told h.store.base.rows k refusal.cause) (λ _. [])) (add_is h k kept ∙ ap (by_row (state_of h) k) e)
+    ∙ of_row (state_of h) k o
+
+pub added_untold : (h : Parts) (k : Constraint) (old new : Account) → Kept h → first_violating_row h.store k ≡ None → new ≡ old
+    → new ≡ and_told old (addition_told (state_of h) k)
+added_untold h k old new kept none same = same ∙ nothing_told old (addition_told (state_of h) k) (addition_is_told h k None kept none)
+
+pub refused_told : (h : Parts) (k : Constraint) (f : AddFault) (old new : Account) → Kept h → AnswersAdding {A = ModeMap} (first_violating_row h.store k) (Err f)
+    → TellsAddition {A = ModeMap} h.store.base.rows k (Err f) old new → UnlessMemory {A = Answer} (Err (adding_refusal f)) (new ≡ and_told old (addition_told (state_of h) k))
+refused_told h k (fault.Row n) old new kept a told = told ∙ ap (and_told old) (sym (addition_is_told h k (Some n) kept a))
+refused_told h k fault.NoMemory old new kept a told = tt
 
 -- ---- a statement by its plan
 

@@ -10,3 +10,4 @@ pub mod Defined
 pub mod ByName
 pub mod Told
 pub mod QueriesTold
+pub mod Standing

@@ -1,5 +1,5 @@
 -- The savepoints of a session as a list.
-use Rattle.std.specs.Prelude.{ℕ, List, [], Option, None, String, string_bytes}
+use Rattle.std.specs.Prelude.{ℕ, List, [], map, Option, None, String, string_bytes}
 use Rattle.iv_modes.specs.ModeMaps.{ModeMap}
 
 -- A savepoint: its name, and the modes that it has if SET CONSTRAINTS had changed them.
@@ -19,3 +19,7 @@ saved_of entry = record { name = string_bytes entry.0; modes = entry.1 }
 -- what stands for a savepoint if there is none
 abbrev pub unnamed : Saved
 unnamed = record { name = []; modes = None }
+
+-- the names of savepoints
+abbrev pub saved_names : List Saved → List (List ℕ)
+saved_names saves = map (λ s. s.name) saves

@@ -1,12 +1,23 @@
 -- What a plan tells.
-use Rattle.std.specs.Prelude.{Result, MatchBool}
-use Rattle.iv_state.specs.Types.{Refusal, Answer, Plan}
+use Rattle.std.specs.Prelude.{◌≡◌, ℕ, List, [], ◌∷◌, Result, Ok, Err, MatchBool}
+use Rattle.iv_expr.specs.declared.row.StoredRow.{StoredRow}
+use Rattle.iv_state.specs.Types.{Refusal, Answer, Constraint, Plan}
 use Rattle.iv_catalogue.specs.Refusals.{is_memory}
 use Rattle.iv_machine.specs.Machine.{State}
-use Rattle.iv_account.specs.Sessions.{is_commit, plan_told}
-use Rattle.iv_account.specs.Telling.{Account, MayTell}
+use Rattle.iv_store.specs.declared.fault.AddFault.{AddFault}
+use Rattle.iv_store.specs.declared.fault.AddFault.TheVariants as fault
+use Rattle.iv_account.specs.Accounts.{not_added_told}
+use Rattle.iv_account.specs.Sessions.{plan_told, runs_untold}
+use Rattle.iv_account.specs.Telling.{Account, MayTell, and_told}
 
--- What is told of a plan, unless an allocation failed. A COMMIT never fails for lack of memory; if its account can't be allocated, the
--- account is empty.
+-- What is told of a plan, unless an allocation failed. A COMMIT never fails for lack of memory, and a ROLLBACK TO SAVEPOINT not for its
+-- account; if that can't be allocated, it is empty.
 abbrev pub TellsPlan : State → Plan → Result Answer Refusal → Account → Account → Type 0
-TellsPlan s p r old new = MatchBool (is_memory r) (Unit {0}) (MayTell (is_commit p) old new (plan_told s p))
+TellsPlan s p r old new = MatchBool (is_memory r) (Unit {0}) (MayTell (runs_untold p) old new (plan_told s p))
+
+-- What is told of a constraint by whether a store with these rows takes it: nothing if it does, and otherwise the row that violates it,
+-- unless an allocation failed.
+abbrev pub TellsAddition : {A : Type 0} → List StoredRow → Constraint → Result A AddFault → Account → Account → Type 0
+TellsAddition rows k (Ok a) old new = new ≡ old
+TellsAddition rows k (Err (fault.Row number)) old new = new ≡ and_told old (not_added_told rows k number ∷ [])
+TellsAddition rows k (Err fault.NoMemory) old new = Unit {0}

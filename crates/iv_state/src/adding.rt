@@ -5,7 +5,9 @@ ghost use Rattle.iv_catalogue.specs.declared.limits.TheConstants.{MOST_CONSTRAIN
 ghost use Rattle.iv_modes.specs.ModeMaps.{initial_map};
 ghost use Rattle.iv_store.specs.Stores.{AnswersAdding, first_violating_row, has_keys, store_with_constraint, store_with_table};
 ghost use Rattle.iv_laws_fitting.specs.ConstraintShapes.{ConstraintFits, TableFits};
+ghost use Rattle.iv_state.specs.Telling.{TellsAddition};
 
+use iv_account::Account;
 use iv_catalogue::{Catalogue, Constraint, Constraints, Table};
 use iv_modes::Modes;
 use iv_store::{AddFault, Keeper};
@@ -87,12 +89,42 @@ fn copy_constraint<K: Keeper>(
     Ok(modes)
 }
 
+// The same, with the row that the constraint isn't added for.
+fn copy_telling<K: Keeper>(
+    store: &mut K,
+    catalogue: &Catalogue,
+    constraint: &Constraint,
+    account: &mut Account,
+) -> Result<Modes, AddFault>
+    requires unmarked { (K.view store.old).marks ≡ [] }
+    requires keys { has_keys (K.view store.old) (constraint.now ∷ []) ≡ true }
+    requires few { length (K.view store.old).constraints < MOST_TABLES * MOST_CONSTRAINTS }
+    ensures answer { AnswersAdding (first_violating_row (K.view store.old) constraint.now) result }
+    ensures modes { IfOk result (λ modes. modes ≡ initial_map catalogue.now.constraints) }
+    ensures ok { OnOk result (K.view store.new
+        ≡ store_with_constraint (K.view store.old) constraint.now) }
+    ensures err { OnErr result (K.view store.new ≡ K.view store.old) }
+    ensures told { TellsAddition (K.view store.old).base.rows constraint.now result
+        account.old account.new }
+{
+    match copy_constraint(store, catalogue, constraint) {
+        Ok(modes) => Ok(modes),
+        Err(AddFault::Row(number)) => {
+            account.refused_addition(store, constraint, number)?;
+            Err(AddFault::Row(number))
+        }
+        Err(AddFault::NoMemory) => Err(AddFault::NoMemory),
+    }
+}
+
 // Adds a constraint to the catalogue and to the store, or to neither. The answer is the modes of all constraints as
-// they are initially. It is refused if a row violates the constraint. ("Add table constraint definition")
+// they are initially. It is refused if a row violates the constraint, and the account tells the row. ("Add table
+// constraint definition")
 pub(crate) fn add_constraint<K: Keeper>(
     store: &mut K,
     catalogue: &mut Catalogue,
     constraint: Constraint,
+    account: &mut Account,
 ) -> Result<Modes, AddFault>
     requires unmarked { (K.view store.old).marks ≡ [] }
     requires constraints { (K.view store.old).constraints ≡ catalogue.old.constraints }
@@ -104,11 +136,13 @@ pub(crate) fn add_constraint<K: Keeper>(
         ≡ store_with_constraint (K.view store.old) constraint) }
     ensures same { OnErr result (catalogue.new ≡ catalogue.old) }
     ensures kept { OnErr result (K.view store.new ≡ K.view store.old) }
+    ensures told { TellsAddition (K.view store.old).base.rows constraint result
+        account.old account.new }
 {
     let place = catalogue.constraints().len();
     catalogue.add_constraint(constraint)?;
     let added = &catalogue.constraints()[place];
-    match copy_constraint(store, catalogue, added) {
+    match copy_telling(store, catalogue, added, account) {
         Ok(modes) => Ok(modes),
         Err(fault) => {
             catalogue.take_constraint();

@@ -64,8 +64,8 @@ impl<K: Keeper + Drop> SessionState<K> {
             TransactionPlan::Commit => self.commit_statement(account),
             TransactionPlan::Rollback => self.rollback_statement(),
             TransactionPlan::Savepoint(name) => self.savepoint(name),
-            TransactionPlan::Release(name) => self.release(name),
-            TransactionPlan::RollbackTo(name) => self.back_to(name.as_str()),
+            TransactionPlan::Release(name) => self.release(name, account),
+            TransactionPlan::RollbackTo(name) => self.back_to_telling(name.as_str(), account),
             TransactionPlan::SetConstraints(set, mode) => {
                 self.set_constraints(set, *mode, account)
             }
@@ -73,13 +73,16 @@ impl<K: Keeper + Drop> SessionState<K> {
     }
 
     // A statement that changes the schema.
-    fn define(&mut self, plan: SchemaPlan) -> Outcome
+    fn define(&mut self, plan: SchemaPlan, account: &mut Account) -> Outcome
         requires { SchemaFits self.old.state plan }
-        ensures { Performs self.old.state (schema_outcome self.old.state plan) result self.new }
+        ensures performs { Performs self.old.state
+            (schema_outcome self.old.state plan) result self.new }
+        ensures told { TellsPlan self.old.state (kind.Schema plan) result
+            account.old account.new }
     {
         match plan {
             SchemaPlan::CreateTable(table, constraints) => self.create_table(table, constraints),
-            SchemaPlan::AddConstraint(constraint) => self.add_constraint(constraint),
+            SchemaPlan::AddConstraint(constraint) => self.add_constraint(constraint, account),
             SchemaPlan::CreateTrigger(trigger) => self.create_trigger(trigger),
             SchemaPlan::DropTrigger(id) => {
                 self.drop_trigger(id);
@@ -145,7 +148,7 @@ impl<K: Keeper + Drop> SessionState<K> {
         ensures told { TellsPlan self.old.state plan result account.old account.new }
     {
         match plan {
-            Plan::Schema(definition) => self.define(definition),
+            Plan::Schema(definition) => self.define(definition, account),
             Plan::Change(statement) => self.change_whole::<D>(statement, account),
             Plan::Query(query) => self.query_whole(query, account),
             Plan::Transaction(control) => self.transact_whole(control, account),

@@ -1,13 +1,26 @@
 //! The savepoints of a transaction by name.
-ghost use Rattle.std.specs.Prelude.{◌≡◌, ◌<◌, ◌^◌, ◌≤◌, ◌++◌, ◌∷◌, [], None, length, take, get_or, string_bytes, IfSome, OnOk};
+ghost use Rattle.std.specs.Prelude.{◌≡◌, ◌<◌, ◌^◌, ◌≤◌, ◌++◌, ◌∷◌, [], None, length, map, take, get_or, string_bytes, IfOk, IfSome, OnOk};
 ghost use Rattle.std.specs.List.{remove};
-ghost use Rattle.iv_state.specs.Saved.{unnamed};
+ghost use Rattle.iv_state.specs.Saved.{saved_names, unnamed};
 ghost use Rattle.iv_state.specs.Saving.{last_named};
 
 use indexmap::IndexMap;
 use iv_modes::Modes;
+use iv_syntax::Name;
+use iv_value::Text;
 use std::alloc::{AllocError, Global};
 use std::marker::Model;
+
+// Names that are these texts.
+fn names_of(alloc: Global, texts: &[String]) -> Result<Vec<Name>, AllocError>
+    ensures { IfOk result (λ names. names.items ≡ map string_bytes texts.now) }
+{
+    let mut names = Vec::with_capacity(alloc, texts.len())?;
+    for text in texts {
+        names.push(Name::new(Text::new(alloc, text.as_str())?))?;
+    }
+    Ok(names)
+}
 
 /// The savepoints of a transaction, the oldest first: each has a distinct name, and its modes if SET CONSTRAINTS had
 /// changed them. A look-up by name takes constant time. Contracts see the list, and how many more it takes without an
@@ -64,6 +77,13 @@ impl SavepointList {
             Some((_, modes)) => modes,
             None => unreachable!(),
         }
+    }
+
+    // The name of each.
+    pub(crate) fn names(&self, alloc: Global) -> Result<Vec<Name>, AllocError>
+        ensures { IfOk result (λ names. names.items ≡ saved_names self.now.saves) }
+    {
+        names_of(alloc, self.modes.keys().as_slice())
     }
 
     // Makes room for one more.

@@ -6,6 +6,9 @@ ghost use Rattle.iv_catalogue.specs.Refusals.{is_memory, refusal_answer};
 ghost use Rattle.iv_machine.specs.declared.answer.Answer.TheVariants.{Done};
 ghost use Rattle.iv_machine.specs.Machine.{accept, inside, is_open, outcome_unless, with_transaction, state_with_savepoint, release_outcome};
 ghost use Rattle.iv_machine.specs.Machine.{rollback_to_outcome, savepoint_named, transaction_cause};
+ghost use Rattle.iv_account.specs.Sessions.{savepoint_told};
+ghost use Rattle.iv_account.specs.Telling.{MayTell, and_told};
+ghost use Rattle.iv_laws_rows.specs.Changing.{UnlessMemory};
 ghost use Rattle.iv_store.specs.Stores.{store_without_mark};
 ghost use Rattle.iv_state.specs.Kept.{brought_back, current};
 ghost use Rattle.iv_state.specs.Looking.{LooksUpFew};
@@ -15,6 +18,7 @@ ghost use Rattle.iv_state.specs.Saving.{IsWithout, last_named, with_marks};
 use crate::changes::modes_now;
 use crate::savepoint_list::SavepointList;
 use crate::session_state::{SessionState, Work};
+use iv_account::Account;
 use iv_catalogue::{Cause, Refusal};
 use iv_machine::Answer;
 use iv_modes::Modes;
@@ -125,8 +129,8 @@ impl<K: Keeper + Drop> SessionState<K> {
         Ok(Answer::Done)
     }
 
-    // RELEASE SAVEPOINT.
-    pub(crate) fn release(&mut self, name: &Name) -> Outcome
+    // RELEASE SAVEPOINT, with nothing told.
+    fn release_quietly(&mut self, name: &Name) -> Outcome
         requires { is_open self.old.state ≡ true }
         ensures performs { Performs self.old.state
             (release_outcome self.old.state (savepoint_named name.now self.old.state.savepoints))
@@ -143,8 +147,22 @@ impl<K: Keeper + Drop> SessionState<K> {
         }
     }
 
-    // ROLLBACK TO SAVEPOINT.
-    pub(crate) fn back_to(&mut self, name: &str) -> Outcome
+    // RELEASE SAVEPOINT.
+    pub(crate) fn release(&mut self, name: &Name, account: &mut Account) -> Outcome
+        requires { is_open self.old.state ≡ true }
+        ensures performs { Performs self.old.state
+            (release_outcome self.old.state (savepoint_named name.now self.old.state.savepoints))
+            result self.new }
+        ensures still { self.new.looked_up ≡ self.old.looked_up }
+        ensures told { UnlessMemory result (account.new
+            ≡ and_told account.old (savepoint_told self.old.state name.now)) }
+    {
+        self.tell_standing(name.as_str(), account)?;
+        self.release_quietly(name)
+    }
+
+    // ROLLBACK TO SAVEPOINT, with nothing told.
+    fn back_to(&mut self, name: &str) -> Outcome
         requires { is_open self.old.state ≡ true }
         ensures looked_up { LooksUpFew self.old self.new }
         ensures sure_store { K.sure ≡ true → is_memory result ≡ false }
@@ -163,6 +181,20 @@ impl<K: Keeper + Drop> SessionState<K> {
         self.saves.truncate(place + 1);
         self.work.undone = change_count.saturating_sub(self.store.change_count());
         Ok(Answer::Done)
+    }
+
+    // ROLLBACK TO SAVEPOINT. If its account can't be allocated, it is empty.
+    pub(crate) fn back_to_telling(&mut self, name: &str, account: &mut Account) -> Outcome
+        requires { is_open self.old.state ≡ true }
+        ensures looked_up { LooksUpFew self.old self.new }
+        ensures performs { Performs self.old.state
+            (rollback_to_outcome self.old.state
+            (savepoint_named name.now self.old.state.savepoints)) result self.new }
+        ensures told { MayTell true account.old account.new
+            (savepoint_told self.old.state name.now) }
+    {
+        self.tell_rollback_to(name, account);
+        self.back_to(name)
     }
 
     // ROLLBACK TO SAVEPOINT, refused outside a transaction.

@@ -1,6 +1,9 @@
 //! Statements that change the schema.
 ghost use Rattle.std.specs.Prelude.{◌≡◌};
 ghost use Rattle.iv_catalogue.specs.Catalogues.{with_table, with_trigger, without_trigger};
+ghost use Rattle.iv_account.specs.Sessions.{addition_told};
+ghost use Rattle.iv_account.specs.Telling.{and_told};
+ghost use Rattle.iv_laws_rows.specs.Changing.{UnlessMemory};
 ghost use Rattle.iv_catalogue.specs.declared.plan.SchemaPlan.TheVariants.{AddConstraint, CreateTable, CreateTrigger, DropTrigger};
 ghost use Rattle.iv_machine.specs.declared.answer.Answer.TheVariants.{Done};
 ghost use Rattle.iv_machine.specs.Machine.{accept, add_constraint_outcome, with_schema};
@@ -9,6 +12,7 @@ ghost use Rattle.iv_state.specs.Performing.{Performs};
 
 use crate::adding::{add_constraint, add_table};
 use crate::session_state::{SessionState, Work};
+use iv_account::Account;
 use iv_catalogue::{Cause, Constraint, Constraints, Refusal, Table, Trigger, TriggerId};
 use iv_machine::Answer;
 use iv_step::Outcome;
@@ -44,13 +48,19 @@ impl<K: Keeper + Drop> SessionState<K> {
     }
 
     // ALTER TABLE ADD.
-    pub(crate) fn add_constraint(&mut self, constraint: Constraint) -> Outcome
+    pub(crate) fn add_constraint(
+        &mut self,
+        constraint: Constraint,
+        account: &mut Account,
+    ) -> Outcome
         requires { SchemaFits self.old.state (AddConstraint constraint) }
-        ensures { Performs self.old.state
+        ensures performs { Performs self.old.state
             (add_constraint_outcome self.old.state constraint) result self.new }
+        ensures told { UnlessMemory result (account.new
+            ≡ and_told account.old (addition_told self.old.state constraint)) }
     {
         self.work = Work::none();
-        match add_constraint(&mut self.store, &mut self.catalogue, constraint) {
+        match add_constraint(&mut self.store, &mut self.catalogue, constraint, account) {
             Ok(modes) => {
                 self.initial = modes;
                 Ok(Answer::Done)

@@ -1,7 +1,8 @@
-//! The violations for which COMMIT and SET CONSTRAINTS are refused, as an account records them.
+//! What an account records of COMMIT and SET CONSTRAINTS, the violations for which they are refused, and of RELEASE and
+//! ROLLBACK TO SAVEPOINT.
 ghost use Rattle.std.specs.Prelude.{◌≡◌, filter, not, true, IfOk, OnOk};
 ghost use Rattle.iv_account.specs.Accounts.{faults_told};
-ghost use Rattle.iv_account.specs.Sessions.{commit_told, modes_told};
+ghost use Rattle.iv_account.specs.Sessions.{commit_told, modes_told, savepoint_told};
 ghost use Rattle.iv_account.specs.Telling.{MayTell, and_told};
 ghost use Rattle.iv_machine.specs.Databases.{is_deferred};
 
@@ -99,6 +100,37 @@ impl<K: Keeper + Drop> SessionState<K> {
         }
         if self.tell_violations(account).is_err() {
             *account = Account::untold(self.allocator());
+        }
+    }
+
+    /// Records which savepoints stand, if none has this name and an account is asked for.
+    pub(crate) fn tell_standing(&self, name: &str, account: &mut Account) -> Result<(), AllocError>
+        ensures { OnOk result (account.new ≡ and_told account.old
+            (savepoint_told self.now.state name.now)) }
+    {
+        if !account.is_asked() {
+            return Ok(());
+        }
+        match self.saves.place_of(name) {
+            Some(_) => Ok(()),
+            None => {
+                let names = self.saves.names(self.allocator())?;
+                account.standing(names)
+            }
+        }
+    }
+
+    /// Records which savepoints stand for a ROLLBACK TO SAVEPOINT of this name, if none has it and an account is asked
+    /// for. If an allocation fails, the account is empty and says so.
+    pub fn tell_rollback_to(&self, name: &str, account: &mut Account)
+        ensures { MayTell true account.old account.new (savepoint_told self.now.state name.now) }
+    {
+        if !account.is_asked() {
+            return;
+        }
+        match self.tell_standing(name, account) {
+            Ok(()) => {}
+            Err(_) => *account = Account::untold(self.allocator()),
         }
     }
 }

@@ -8,7 +8,7 @@ use Rattle.iv_machine.specs.Machine.{State}
 use Rattle.iv_resolution.specs.Resolution.{resolution}
 use Rattle.iv_account.specs.declared.entry.Entry.{Entry}
 use Rattle.iv_account.specs.Telling.{Account, MayTell, no_account}
-use Rattle.iv_step.specs.Telling.{Tells, commits, statement_told}
+use Rattle.iv_step.specs.Telling.{Tells, may_be_untold, statement_told}
 
 may_tell_asked : (may asked : Bool) (account : Account) (entries : List Entry) → MayTell may (no_account asked) account entries → account.asked ≡ asked
 may_tell_asked false asked account entries told = ap (λ (x : Account). x.asked) told
@@ -18,6 +18,6 @@ may_tell_asked true asked account entries (inr none) = ap (λ (x : Account). x.a
 -- whether an account is asked for stays after each statement
 pub asked_stays : (asked : Bool) (s : State) (st : Statement) (r : Result Answer Refusal) (account : Account) → Tells asked s st r account → account.asked ≡ asked
 asked_stays asked s st r account told = by (is_memory r) told where
-  by : (b : Bool) → MatchBool b (account ≡ no_account asked) (MayTell (commits (resolution s.schema st)) (no_account asked) account (statement_told s st)) → account.asked ≡ asked
+  by : (b : Bool) → MatchBool b (account ≡ no_account asked) (MayTell (may_be_untold (resolution s.schema st)) (no_account asked) account (statement_told s st)) → account.asked ≡ asked
   by true none = ap (λ (x : Account). x.asked) none
-  by false told = may_tell_asked (commits (resolution s.schema st)) asked account (statement_told s st) told
+  by false told = may_tell_asked (may_be_untold (resolution s.schema st)) asked account (statement_told s st) told

@@ -54,7 +54,8 @@ pub trait Executor {
     fn account(&self) -> &[Entry]
         ensures { result.now ≡ (told self.now).entries };
 
-    /// Whether the account of the last statement, a COMMIT, could not be allocated, so that it is empty.
+    /// Whether the account of the last statement, a COMMIT or a ROLLBACK TO SAVEPOINT, could not be allocated, so that it
+    /// is empty.
     fn is_untold(&self) -> bool
         ensures { result ≡ (told self.now).untold };
 

@@ -29,6 +29,20 @@ const FAILED_WHEN: &str =
 const DEFERRED: &str =
     "CREATE TABLE t (a INT, CONSTRAINT pos CHECK (a > 0) INITIALLY DEFERRED); INSERT INTO t VALUES (0), (1), (-1);";
 
+const RELEASED: &str =
+    "START TRANSACTION; SAVEPOINT a; SAVEPOINT b; SAVEPOINT a; RELEASE SAVEPOINT z;";
+
+const BACK_TO_NONE: &str =
+    "START TRANSACTION; SAVEPOINT a; RELEASE SAVEPOINT a; ROLLBACK TO SAVEPOINT a;";
+
+const BACK_TO_ONE: &str = "START TRANSACTION; SAVEPOINT a; SAVEPOINT b; ROLLBACK TO SAVEPOINT a;";
+
+const NOT_ADDED: &str =
+    "CREATE TABLE t (a INT); INSERT INTO t VALUES (1), (7), (7); COMMIT; ALTER TABLE t ADD UNIQUE (a);";
+
+const ADDED: &str =
+    "CREATE TABLE t (a INT); INSERT INTO t VALUES (1), (7), (7); COMMIT; ALTER TABLE t ADD CHECK (a > 0);";
+
 // C_C1 is the constraint at place 1; the rows of C are 2 and 3, those of LOG 4 and 5.
 #[test]
 fn a_cascade_is_told(rt: HostRuntime) {
@@ -106,6 +120,21 @@ fn what_failed_in_a_set_is_told(rt: HostRuntime) {
 fn what_failed_in_a_condition_is_told(rt: HostRuntime) {
     static CALLS: [Call; 3] = [Call::Explain(true), Call::Execute, Call::Account];
     shows::<PlainStore>(&rt, rt.alloc(), FAILED_WHEN, &CALLS, "changed 1; failed; ")
+}
+
+#[test]
+fn savepoints_that_stand_are_told(rt: HostRuntime) {
+    static CALLS: [Call; 3] = [Call::Explain(true), Call::Execute, Call::Account];
+    shows::<PlainStore>(&rt, rt.alloc(), RELEASED, &CALLS, "standing B A; ");
+    shows::<PlainStore>(&rt, rt.alloc(), BACK_TO_NONE, &CALLS, "standing; ");
+    shows::<PlainStore>(&rt, rt.alloc(), BACK_TO_ONE, &CALLS, "")
+}
+
+#[test]
+fn a_constraint_that_is_not_added_is_told(rt: HostRuntime) {
+    static CALLS: [Call; 3] = [Call::Explain(true), Call::Execute, Call::Account];
+    shows::<PlainStore>(&rt, rt.alloc(), NOT_ADDED, &CALLS, "not added T_C1, 2, 3; ");
+    shows::<PlainStore>(&rt, rt.alloc(), ADDED, &CALLS, "")
 }
 
 #[test]

@@ -5,7 +5,7 @@ use iv_catalogue::{Catalogue, Cause, Fault, TriggerId};
 use iv_expr::StoredRow;
 use iv_machine::Answer;
 use iv_session::{Outcome, Work};
-use iv_syntax::ConstraintMode;
+use iv_syntax::{ConstraintMode, Name};
 use iv_value::Truth;
 use std::panic::Expect;
 use std::process::Abort;
@@ -138,6 +138,7 @@ fn show_rows(rt: &impl Abort, entry: &Entry, shown: &mut String) {
     let rows = match entry {
         Entry::Faulted(_, rows) => rows.as_slice(),
         Entry::Disagreed(_, rows, _) => rows.as_slice(),
+        Entry::NotAdded(_, rows) => rows.as_slice(),
         _ => &[],
     };
     for row in rows {
@@ -149,6 +150,14 @@ fn show_rows(rt: &impl Abort, entry: &Entry, shown: &mut String) {
 fn show_violated(rt: &impl Abort, before: &str, fault: &Fault, shown: &mut String) {
     show_number(rt, before, fault.constraint.place() as u64, " ", shown);
     show_number(rt, "", fault.row, "", shown)
+}
+
+fn show_names(rt: &impl Abort, names: &[Name], shown: &mut String) {
+    show(rt, "standing", shown);
+    for name in names {
+        show(rt, " ", shown);
+        show(rt, name.as_str(), shown);
+    }
 }
 
 // An entry in words, without an end.
@@ -173,6 +182,12 @@ fn show_entry(rt: &impl Abort, entry: &Entry, shown: &mut String) {
             show_rows(rt, entry, shown)
         }
         Entry::Failed(_) => show(rt, "failed", shown),
+        Entry::Standing(names) => show_names(rt, names.as_slice(), shown),
+        Entry::NotAdded(constraint, _) => {
+            show(rt, "not added ", shown);
+            show(rt, constraint.name.as_str(), shown);
+            show_rows(rt, entry, shown)
+        }
     }
 }
 

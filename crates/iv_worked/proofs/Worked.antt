@@ -16,6 +16,7 @@ use Rattle.iv_worked.specs.WorkedNulls.{WorkedNulls}
 use Rattle.iv_worked.specs.WorkedColumns.{WorkedColumns}
 use Rattle.iv_worked.specs.WorkedAccounts.{WorkedAccounts}
 use Rattle.iv_worked.specs.WorkedFailures.{WorkedFailures}
+use Rattle.iv_worked.specs.WorkedRefusals.{WorkedRefusals}
 
 pub constraints : WorkedConstraints
 constraints = record {
@@ -280,4 +281,22 @@ failures = record {
   text_of_an_update = refl;
   text_of_a_set = refl;
   accepted = refl;
+}
+
+pub refusals : WorkedRefusals
+unfolding values_on_literals
+refusals = record {
+  release_of_none = refl;
+  rollback_to_none = refl;
+  later_ones_are_gone = refl;
+  none_stands = refl;
+  rollback_to_one = refl;
+  release_of_one = refl;
+  check_of_a_row = refl;
+  check_of_no_row = refl;
+  deferred_check = refl;
+  key_of_two_rows = refl;
+  null_in_a_key = refl;
+  nulls_as_a_key = refl;
+  key_that_is_missing = refl;
 }

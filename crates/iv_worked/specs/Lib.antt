@@ -16,6 +16,7 @@ pub mod WorkedOccasions
 pub mod WorkedNulls
 pub mod WorkedColumns
 pub mod WorkedAccounts
+pub mod WorkedRefusals
 pub mod Words
 pub mod Many
 pub mod WorkedUnknown

@@ -21,6 +21,7 @@ ghost use Rattle.iv_worked.specs.WorkedNulls.{WorkedNulls};
 ghost use Rattle.iv_worked.specs.WorkedColumns.{WorkedColumns};
 ghost use Rattle.iv_worked.specs.WorkedAccounts.{WorkedAccounts};
 ghost use Rattle.iv_worked.specs.WorkedFailures.{WorkedFailures};
+ghost use Rattle.iv_worked.specs.WorkedRefusals.{WorkedRefusals};
 ghost use Rattle.iv_worked.specs.WorkedActions.{WorkedActions};
 ghost use Rattle.iv_worked.specs.WorkedConstraints.{WorkedConstraints};
 ghost use Rattle.iv_worked.specs.WorkedTriggers.{WorkedTriggers};
@@ -56,4 +57,5 @@ pub fn worked_scripts()
     ensures columns { WorkedColumns }
     ensures accounts { WorkedAccounts }
     ensures failures { WorkedFailures }
+    ensures refusals { WorkedRefusals }
 {}

@@ -1,6 +1,6 @@
 //! The account of the last statement, entry by entry.
 ghost use Rattle.std.specs.Prelude.{◌≡◌, ◌≢◌, length, slice_get, IfSome};
-ghost use Rattle.iv_connection.specs.Accounts.{disagreement_at, disagreement_shown, entry_shown, item_at, item_value, seen_value, set_value, trigger_at_entry};
+ghost use Rattle.iv_connection.specs.Accounts.{disagreement_at, disagreement_shown, entry_shown, item_at, item_value, name_at_entry, seen_value, set_value, trigger_at_entry};
 ghost use Rattle.iv_connection.specs.Copying.{Copies};
 ghost use Rattle.iv_connection.specs.Cells.{text_of, cell_of};
 ghost use Rattle.iv_connection.specs.Statuses.{found};
@@ -9,8 +9,8 @@ ghost use Rattle.sqlkeep_c.specs.Statuses.{status_by, status_if_open};
 use crate::handle::{Handle, put, take};
 use iv_connection::{
     CLOSED, Cell, NOTHING, OK, ShownDisagreement, ShownEntry, ShownItem, copied_if_there,
-    copy_text, disagreement_at, disagreement_shown, entry_at, entry_shown, entry_trigger_at,
-    item_at, item_value, seen_value, set_value, write_value,
+    copy_text, disagreement_at, disagreement_shown, entry_at, entry_name_at, entry_shown,
+    entry_trigger_at, item_at, item_value, seen_value, set_value, write_value,
 };
 use std::alloc::Global;
 
@@ -81,6 +81,34 @@ pub extern "C" fn sqlkeep_entry_trigger(
         return CLOSED;
     };
     let status = copied_if_there(entry_trigger_at(&connection, at), from, buffer, count);
+    put(handle, connection);
+    status
+}
+
+/// Copies a name that the entry at this place tells and the catalogue doesn't have: that of a savepoint, or of the
+/// constraint that isn't added.
+#[unsafe(no_mangle)]
+pub extern "C" fn sqlkeep_entry_name(
+    alloc: Global,
+    handle: &mut Handle,
+    at: usize,
+    item: usize,
+    from: usize,
+    buffer: &mut [u8],
+    count: &mut usize,
+) -> u32
+    ensures bytes { IfSome handle.old.kept.behind (λ old.
+        IfSome (name_at_entry old.session.account.entries at item) (λ name.
+        Copies from name buffer.old buffer.new count.new)) }
+    ensures kept { handle.new.kept.behind ≡ handle.old.kept.behind }
+    ensures others { result ≢ OK → (buffer.new ≡ buffer.old) × (count.new ≡ count.old) }
+    ensures status { result ≡ status_by (λ old.
+        found (name_at_entry old.session.account.entries at item)) handle.old.kept.behind }
+{
+    let Some(connection) = take(handle, alloc) else {
+        return CLOSED;
+    };
+    let status = copied_if_there(entry_name_at(&connection, at, item), from, buffer, count);
     put(handle, connection);
     status
 }

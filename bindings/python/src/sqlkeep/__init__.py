@@ -57,7 +57,7 @@ is_proved = PROVED
 
 # What is imported when it is first asked for, so that `import sqlkeep` is quick.
 LATER = {
-    "account": ("Account", "Action", "Change", "NameFault", "Nested", "Reason", "Skipped", "Trigger", "Violation", "parse_account"),
+    "account": ("Account", "Action", "Change", "NameFault", "Nested", "Reason", "Savepoints", "Skipped", "Trigger", "Violation", "parse_account"),
     "catalogue": ("Catalogue", "Column", "Constraint", "Table", "TriggerDefinition"),
     "session": ("Outcome", "Pending", "Run", "Session", "StoredRow", "Work"),
     "transcript": ("Answer", "Fault", "Refusal", "Settled", "Transcript", "parse_transcript"),
@@ -68,7 +68,7 @@ __all__ = [
     "Account", "Action", "Answer", "BINARY", "Binary", "Catalogue", "Change", "Column", "Connection", "Constraint", "Cursor", "DATETIME", "DataError",
     "DatabaseError", "Date", "DateFromTicks", "Error", "Fault", "IntegrityError", "InterfaceError", "InternalError", "LEGACY_TRANSACTION_CONTROL",
     "NUMBER", "NameFault", "Nested", "NotSupportedError", "OperationalError", "Outcome", "Pending", "ProgrammingError", "ROWID", "Reason", "Refusal", "Run",
-    "STRING", "Session", "Settled", "Skipped", "StoredRow", "Table", "Time", "TimeFromTicks", "Timestamp", "TimestampFromTicks", "Transcript", "Trigger", "TriggerDefinition", "Violation",
+    "STRING", "Savepoints", "Session", "Settled", "Skipped", "StoredRow", "Table", "Time", "TimeFromTicks", "Timestamp", "TimestampFromTicks", "Transcript", "Trigger", "TriggerDefinition", "Violation",
     "Warning", "Work", "apilevel", "connect", "is_proved", "paramstyle", "parse_account", "parse_transcript", "threadsafety",
 ]
 

@@ -8,7 +8,7 @@ from typing import Dict, Iterator, List, Optional, Tuple, Union
 
 from .values import Value, parse_values, write_value, write_values
 
-__all__ = ["Account", "Action", "Change", "Event", "NameFault", "Nested", "Reason", "Skipped", "Trigger", "Violation", "parse_account"]
+__all__ = ["Account", "Action", "Change", "Event", "NameFault", "Nested", "Reason", "Savepoints", "Skipped", "Trigger", "Violation", "parse_account"]
 
 Row = Tuple[Value, ...]
 
@@ -43,7 +43,7 @@ class Action:
 
 @dataclass(frozen=True)
 class Violation:
-    """A constraint and a row that a refusal is about, and why.
+    """A constraint and a row that a refusal is about, and why. Of AddRefused it is the constraint that isn't added, which no table has.
 
     `why` is one of `condition`, `null`, `same key`, `null in key`, `missing`, `some nulls`, `restrict` and `conflict`. `rule` is what a
     constraint with a generated name asks, as `PRIMARY KEY (ID)`. `condition` is that of a CHECK, as `PRICE > 0`, and `with_values` has
@@ -110,6 +110,16 @@ class NameFault:
 
 
 @dataclass(frozen=True)
+class Savepoints:
+    """The savepoints that stand where RELEASE or ROLLBACK TO names one that isn't there, the earliest first."""
+
+    standing: Tuple[str, ...]
+
+    def __str__(self) -> str:
+        return f"savepoints that stand: {', '.join(self.standing)}" if self.standing else "no savepoint stands"
+
+
+@dataclass(frozen=True)
 class Reason:
     """Why a statement is refused, in words."""
 
@@ -161,7 +171,7 @@ class Skipped:
         return f"{Trigger(self.name, self.old, self.new)} skipped: WHEN is {self.when}"
 
 
-Event = Union[Change, Action, Trigger, Skipped, Violation, NameFault, Reason]
+Event = Union[Change, Action, Trigger, Skipped, Violation, Savepoints, NameFault, Reason]
 
 BY_REFERENCE = {"missing": "which isn't there", "restrict": "which RESTRICT protects"}
 BY_NULLS = {"null in key": "has a null in its key", "some nulls": "has some nulls in its key"}
@@ -187,6 +197,11 @@ class Account:
     def violations(self) -> List[Violation]:
         """The constraints and rows that a refusal is about, at whichever depth."""
         return [event for event in self.walk() if isinstance(event, Violation)]
+
+    @property
+    def savepoints(self) -> Optional[Tuple[str, ...]]:
+        """The names of the savepoints that stand, the earliest first; None where the refusal is about no savepoint."""
+        return next((event.standing for event in self.events if isinstance(event, Savepoints)), None)
 
     @property
     def name(self) -> Optional[NameFault]:
@@ -251,6 +266,7 @@ ACTION = re.compile(r"(\w+) (CASCADE|SET NULL|SET DEFAULT) on (\w+) row (\d+)\n"
 RULE = r"(?:NOT NULL|CHECK|UNIQUE|PRIMARY KEY|FOREIGN KEY)[\w ,()]*"
 VIOLATION = re.compile(rf"(\w+)(?: \(({RULE})\))?: (\w+) row (\d+) {ROW} ")
 NAME = re.compile(r"(table|column|row variable|trigger|constraint|REFERENCING name) (\w+(?:\.\w+)?) (isn't there|is there already|comes twice)\n")
+SAVEPOINTS = re.compile(r"(?:no savepoint stands|savepoints that stand: (\w+(?:, \w+)*))\n")
 STATEMENT = re.compile(r"statement (\d+)( changes nothing)?\n")
 VALUE = r"NULL|-?\d+|'(?:[^']|'')*'"
 # A text in an expression may hold anything between its quotes.
@@ -331,7 +347,8 @@ class Reader:
         """The event at this indentation; None where there is none."""
         if not self.text.startswith(indent, self.at) or self.text.startswith(" ", self.at + len(indent)):
             return None
-        return self.change(indent) or self.action(indent) or self.trigger(indent) or self.violation(indent) or self.name(indent) or self.reason(indent)
+        readers = (self.change, self.action, self.trigger, self.violation, self.savepoints, self.name, self.reason)
+        return next(filter(None, (read(indent) for read in readers)), None)
 
     def change(self, indent: str) -> Optional[Change]:
         found = self.take(CHANGE, indent)
@@ -376,6 +393,10 @@ class Reader:
                 return violation_of(head, why, found)
         self.at = began
         return None
+
+    def savepoints(self, indent: str) -> Optional[Savepoints]:
+        found = self.take(SAVEPOINTS, indent)
+        return None if found is None else Savepoints(tuple(found[1].split(", ")) if found[1] else ())
 
     def name(self, indent: str) -> Optional[NameFault]:
         found = self.take(NAME, indent)

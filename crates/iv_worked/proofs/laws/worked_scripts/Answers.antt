@@ -1,4 +1,4 @@
-use Rattle.iv_worked.proofs.Worked.{constraints, actions, triggers, statements, keys, transactions, effects, before_triggers, transitions, limits, occasions, nulls, columns, accounts, failures}
+use Rattle.iv_worked.proofs.Worked.{constraints, actions, triggers, statements, keys, transactions, effects, before_triggers, transitions, limits, occasions, nulls, columns, accounts, failures, refusals}
 use Rattle.iv_worked.proofs.laws.worked_scripts.Goals as goal
 
 pub returns-clause-constraints : goal.returns-clause-constraints
@@ -45,3 +45,6 @@ returns-clause-accounts c = accounts
 
 pub returns-clause-failures : goal.returns-clause-failures
 returns-clause-failures c = failures
+
+pub returns-clause-refusals : goal.returns-clause-refusals
+returns-clause-refusals c = refusals

@@ -5,7 +5,7 @@ use Rattle.iv_catalogue.specs.Refusals.{is_memory}
 use Rattle.iv_machine.specs.Machine.{Outcome, State, commit_outcome, is_open, occasion_of, rollback_outcome, transaction_cause}
 use Rattle.iv_resolution.specs.Resolution.{resolution}
 use Rattle.iv_step.specs.Step.{step}
-use Rattle.iv_step.specs.Telling.{commits, statement_told}
+use Rattle.iv_step.specs.Telling.{may_be_untold, statement_told}
 use Rattle.iv_session.proofs.Told.{barred_untold, commit_is_told}
 use Rattle.iv_session.specs.Types.{Statement}
 use Rattle.iv_state.specs.Kept.{Seen}
@@ -55,7 +55,7 @@ invariant_of-self-then-is_writable g c =
 
 pub returns-in-Some-clause-told : goal.returns-in-Some-clause-told
 returns-in-Some-clause-told g c =
-    barred_untold c.args.self.now.state c.args.statement.now c.in-Some.cause (commits (resolution c.args.self.now.state.schema c.args.statement.now)) (is_memory c.refuse_now.result)
+    barred_untold c.args.self.now.state c.args.statement.now c.in-Some.cause (may_be_untold (resolution c.args.self.now.state.schema c.args.statement.now)) (is_memory c.refuse_now.result)
     c.args.self.now.account c.self.inside.account
     (c.in-Some.ensures ∙ ap (λ (x : Seen). transaction_cause (is_open x.state) (occasion_of c.args.statement.now)) c.self.view_is)
     (ap (λ (x : Seen). x.account) c.self.view_is)
@@ -63,6 +63,6 @@ returns-in-Some-clause-told g c =
 pub returns-in-Commit-clause-told : goal.returns-in-Commit-clause-told
 returns-in-Commit-clause-told g c =
     subst (λ (x : Seen). MatchBool (is_memory c.commit_statement.result) (Unit {0})
-    (MayTell (commits (resolution x.state.schema c.args.statement.now)) x.account c.commit_statement.new.account (statement_told x.state c.args.statement.now))) c.self.view_is
+    (MayTell (may_be_untold (resolution x.state.schema c.args.statement.now)) x.account c.commit_statement.new.account (statement_told x.state c.args.statement.now))) c.self.view_is
     (commit_is_told c.self.inside.state.state c.args.statement.now (is_memory c.commit_statement.result) c.self.inside.account c.commit_statement.new.account
     c.in-Commit.is c.commit_statement.ensures.told)

@@ -6,7 +6,7 @@ use Rattle.iv_state.specs.Kept.{Parts, parts, StandsAs, IsOpen}
 use Rattle.iv_state.specs.Saving.{last_named}
 use Rattle.iv_state.proofs.Saves.{open_is}
 use Rattle.iv_state.proofs.Releasing.{found, not_found, released_state, released_kept}
-use Rattle.iv_state.proofs.session_state.SessionState.release.Goals as goal
+use Rattle.iv_state.proofs.session_state.SessionState.release_quietly.Goals as goal
 
 pub invariant_of-self : goal.invariant_of-self
 invariant_of-self g c =

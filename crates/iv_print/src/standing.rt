@@ -1,0 +1,56 @@
+//! The line of the savepoints that stand.
+ghost use Rattle.std.specs.Prelude.{◌≡◌};
+ghost use Rattle.std.specs.List.{flat_map};
+ghost use Rattle.iv_print.specs.AccountLines.{further_savepoint, standing_line, standing_words};
+ghost use Rattle.iv_print.specs.Writing.{Writes};
+
+use crate::account::write_indent;
+use crate::device::{DeviceFault, Sink};
+use crate::write::write_all;
+use iv_syntax::Name;
+
+fn write_further<W: Sink>(sink: &mut W, name: &Name) -> Result<(), DeviceFault>
+    ensures { Writes (W.state sink.old) (W.state sink.new) result (further_savepoint name.now) }
+{
+    write_all(sink, b", ")?;
+    write_all(sink, name.as_str().as_bytes())
+}
+
+// Further names, each after a comma.
+fn write_more<W: Sink>(sink: &mut W, names: &[Name]) -> Result<(), DeviceFault>
+    ensures { Writes (W.state sink.old) (W.state sink.new) result
+        (flat_map further_savepoint names.now) }
+{
+    let mut rest = names;
+    while let Some((name, others)) = rest.split_first() {
+        write_further(sink, name)?;
+        rest = others;
+    }
+    Ok(())
+}
+
+fn write_words<W: Sink>(sink: &mut W, names: &[Name]) -> Result<(), DeviceFault>
+    ensures { Writes (W.state sink.old) (W.state sink.new) result (standing_words names.now) }
+{
+    match names {
+        [] => write_all(sink, b"no savepoint stands"),
+        [name, more @ ..] => {
+            write_all(sink, b"savepoints that stand: ")?;
+            write_all(sink, name.as_str().as_bytes())?;
+            write_more(sink, more)
+        }
+    }
+}
+
+/// The line of the savepoints that stand.
+pub(crate) fn write_standing<W: Sink>(
+    sink: &mut W,
+    depth: usize,
+    names: &[Name],
+) -> Result<(), DeviceFault>
+    ensures { Writes (W.state sink.old) (W.state sink.new) result (standing_line depth names.now) }
+{
+    write_indent(sink, depth)?;
+    write_words(sink, names)?;
+    write_all(sink, b"\n")
+}
