@@ -431,7 +431,7 @@ uint32_t sqlkeep_open(sqlkeep *handle, uint8_t depth, uint32_t changes);
    database. SQLKEEP_CLOSED: the handle was empty. */
 uint32_t sqlkeep_close(sqlkeep *handle);
 
-/* From now on an account of each statement is asked for, or isn't: 0 is no, all else is yes. An account says what happened
+/* From now on an account of each statement is asked for, or isn't: 0 is no, all else is yes. The last account is cleared. An account says what happened
    in a statement, line by line: rows that changed, foreign keys that acted, triggers that ran, and the rows that a refusal is
    about (docs/language/accounts.md). sqlkeep_run and sqlkeep_lines write it. Where memory for it is refused, the statement is
    refused with cause 22; a COMMIT or a ROLLBACK TO SAVEPOINT is as without one then, and its account is empty. SQLKEEP_CLOSED. */
@@ -503,7 +503,8 @@ uint32_t sqlkeep_statement_kind(sqlkeep *handle, size_t at, uint32_t *kind);
 
 /* Writes the lines of the last outcome as the program does, with this number in front, then those of its account and the name
    that a refusal is about where accounts are asked for, and keeps them for sqlkeep_transcript. It is to be called before the next
-   statement is executed; the name is told up to the next sqlkeep_read. Before any statement was
+   statement is executed; the name is told up to the next sqlkeep_read. The account is told where one was asked for when the
+   outcome was answered, up to the next sqlkeep_explain, sqlkeep_rollback or sqlkeep_dump, which clear it. Before any statement was
    executed the outcome is `ok`. SQLKEEP_CLOSED, SQLKEEP_NO_MEMORY. */
 uint32_t sqlkeep_lines(sqlkeep *handle, uint64_t number);
 
@@ -699,7 +700,7 @@ uint32_t sqlkeep_disagreement_text(sqlkeep *handle, size_t at, uint32_t side, si
    memory is refused for it; the outcome is the same. SQLKEEP_CLOSED. */
 uint32_t sqlkeep_commit(sqlkeep *handle, sqlkeep_outcome *outcome);
 
-/* ROLLBACK. It can't be refused memory, as COMMIT can't. SQLKEEP_CLOSED. */
+/* ROLLBACK. The last outcome stays, and its account is cleared. It can't be refused memory, as COMMIT can't. SQLKEEP_CLOSED. */
 uint32_t sqlkeep_rollback(sqlkeep *handle);
 
 /* ROLLBACK TO SAVEPOINT, with the outcome of the statement; the name as it is folded, in upper case. It takes no memory.

@@ -215,6 +215,36 @@ static int failure(sqlkeep *session) {
     return 0;
 }
 
+static bool has_lines(sqlkeep *session, const char *words, const char *json) {
+    uint8_t bytes[300];
+    size_t copied = 0;
+    if (sqlkeep_lines(session, 4) != SQLKEEP_OK || sqlkeep_transcript(session, 0, bytes, sizeof bytes, &copied) != SQLKEEP_OK) return false;
+    if (copied != strlen(words) || memcmp(bytes, words, copied) != 0) return false;
+    if (sqlkeep_lines_json(session, 4) != SQLKEEP_OK || sqlkeep_transcript(session, 0, bytes, sizeof bytes, &copied) != SQLKEEP_OK) return false;
+    return copied == strlen(json) && memcmp(bytes, json, copied) == 0;
+}
+
+/* The line of a limit is told where the account is: where one was asked for when the statement ran, up to the call that clears it. */
+static int limits(void) {
+    static const char SAID[] = "4 refused 16 DepthLimit R\n", SAID_IN_JSON[] = "{\"number\":4,\"kind\":\"refused\",\"cause\":16,\"name\":\"DepthLimit\",\"trigger\":\"R\"}\n";
+    static const char INSERT[] = "INSERT INTO t VALUES (1);";
+    sqlkeep session = SQLKEEP_EMPTY;
+    sqlkeep_outcome outcome;
+    size_t scripts = 0;
+    WANT(sqlkeep_open(&session, 1, 65536) == SQLKEEP_OK);
+    WANT(executed(&session, "CREATE TABLE t (a INT); CREATE TRIGGER r AFTER INSERT ON t INSERT INTO t VALUES (2); COMMIT;", &outcome) == SQLKEEP_DONE);
+    WANT(executed(&session, INSERT, &outcome) == SQLKEEP_REFUSED && outcome.cause == SQLKEEP_CAUSE_DEPTH_LIMIT && has_lines(&session, SAID, SAID_IN_JSON));
+    WANT(sqlkeep_explain(&session, 1) == SQLKEEP_OK && has_lines(&session, SAID, SAID_IN_JSON));
+    WANT(executed(&session, INSERT, &outcome) == SQLKEEP_REFUSED && sqlkeep_lines(&session, 4) == SQLKEEP_OK && !has_lines(&session, SAID, SAID_IN_JSON));
+    WANT(sqlkeep_explain(&session, 1) == SQLKEEP_OK && has_lines(&session, SAID, SAID_IN_JSON));
+    WANT(executed(&session, INSERT, &outcome) == SQLKEEP_REFUSED && !has_lines(&session, SAID, SAID_IN_JSON));
+    WANT(sqlkeep_rollback(&session) == SQLKEEP_OK && has_lines(&session, SAID, SAID_IN_JSON));
+    WANT(sqlkeep_commit(&session, &outcome) == SQLKEEP_OK && has_lines(&session, "4 ok\n", "{\"number\":4,\"kind\":\"done\",\"account\":[]}\n"));
+    WANT(sqlkeep_dump(&session, &scripts) == SQLKEEP_OK && has_lines(&session, "4 ok\n", "{\"number\":4,\"kind\":\"done\"}\n"));
+    WANT(sqlkeep_close(&session) == SQLKEEP_OK);
+    return 0;
+}
+
 static bool is_name(sqlkeep *session, size_t at, size_t item, const char *want) {
     uint8_t bytes[20];
     size_t count = 0;
@@ -276,6 +306,7 @@ int main(void) {
     failed = failed ? failed : failure(&session);
     failed = failed ? failed : skipped(&session);
     failed = failed ? failed : transition(&session);
+    failed = failed ? failed : limits();
     failed = failed ? failed : savepoints(&session);
     failed = failed ? failed : not_added(&session);
     WANT(sqlkeep_close(&session) == SQLKEEP_OK);

@@ -19,6 +19,7 @@ pub record IsNew (limits : Bounds) (c : Connection) : Type 0 where
   pub values : c.values ≡ []
   pub outcome : c.outcome ≡ Ok Done
   pub executed : c.executed ≡ None
+  pub untold : c.is_told ≡ false
   pub pending : c.pending.items ≡ []
   pub transcript : c.transcript.items ≡ []
   pub dump : c.dump.items ≡ []

@@ -29,6 +29,8 @@ pub struct Connection {
     pub outcome: Outcome,
     /// The place among the statements of the one that answered it; none where another call did, or others were read since.
     pub executed: Option<usize>,
+    /// Whether the session has the account of that outcome: it was asked for then, and nothing cleared it since.
+    pub is_told: bool,
     /// The violations that were found last.
     pub pending: Vec<Fault>,
     /// The transcript of the last script that was run, or the lines of an outcome.

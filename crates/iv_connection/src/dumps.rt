@@ -1,5 +1,5 @@
 //! The database as scripts.
-ghost use Rattle.std.specs.Prelude.{◌≡◌, ◌≢◌, option_copied, slice_get};
+ghost use Rattle.std.specs.Prelude.{◌≡◌, ◌≢◌, false, option_copied, slice_get};
 ghost use Rattle.iv_dump.specs.Dumps.{AreDump};
 ghost use Rattle.iv_dump.specs.Scripts.{AreShort};
 ghost use Rattle.iv_connection.specs.Dumps.{IsDumpStatus, scripts_of};
@@ -18,7 +18,9 @@ pub fn keep_dump(alloc: Global, connection: &mut Connection) -> u32
     ensures rest { connection.new ≡ record connection.old {
       session = connection.new.session;
       dump = connection.new.dump;
+      is_told = connection.new.is_told;
     } }
+    ensures untold { result ≢ IN_TRANSACTION → connection.new.is_told ≡ false }
     ensures others { result ≢ OK → connection.new.dump ≡ connection.old.dump }
     ensures in_transaction { result ≡ IN_TRANSACTION → connection.new ≡ connection.old }
     ensures status { IsDumpStatus connection.old.session.state result }
@@ -26,6 +28,7 @@ pub fn keep_dump(alloc: Global, connection: &mut Connection) -> u32
     if connection.session.in_transaction() {
         return IN_TRANSACTION;
     }
+    connection.is_told = false;
     match dump(alloc, &mut connection.session) {
         Ok(scripts) => {
             connection.dump = scripts;

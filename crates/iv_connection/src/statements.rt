@@ -2,7 +2,7 @@
 ghost use Rattle.std.specs.Prelude.{◌≡◌, ◌≢◌, None, Some, false, is_some, true, IfErr, IfOk, IfSome, OnOk, option_copied, option_map, slice_get};
 ghost use Rattle.std.specs.Str.{IsUtf8};
 ghost use Rattle.iv_parse.specs.Script.{IsFault, IsScript};
-ghost use Rattle.iv_connection.specs.OutcomeLines.{executed, lines_of};
+ghost use Rattle.iv_connection.specs.OutcomeLines.{account, executed, lines_of};
 ghost use Rattle.iv_session.specs.Executed.{Executed};
 ghost use Rattle.iv_connection.specs.Statements.{place_shown};
 ghost use Rattle.iv_connection.specs.Statuses.{MayWantMemory, found};
@@ -10,6 +10,7 @@ ghost use Rattle.iv_connection.specs.Statuses.{MayWantMemory, found};
 use crate::connection::{Connection, Database};
 use crate::places::SourceText;
 use crate::status::{NO_MEMORY, NOT_UTF8, OK};
+use iv_account::Entry;
 use iv_parse::{SyntaxFault, script};
 use iv_print::{DeviceFault, Format, Std, Style};
 use iv_script::{Telling, write_lines};
@@ -149,10 +150,12 @@ pub fn execute_kept(connection: &mut Connection, at: usize) -> bool
       session = connection.new.session;
       outcome = connection.new.outcome;
       executed = Some at;
+      is_told = connection.old.session.account.asked;
     } }
     ensures found { result ≡ is_some (slice_get connection.old.statements at) }
     ensures none { result ≡ false → connection.new ≡ connection.old }
 {
+    let is_told = connection.session.explains();
     match execute_at(
         &mut connection.session,
         connection.statements.as_slice(),
@@ -161,6 +164,7 @@ pub fn execute_kept(connection: &mut Connection, at: usize) -> bool
         Some(outcome) => {
             connection.outcome = outcome;
             connection.executed = Some(at);
+            connection.is_told = is_told;
             true
         }
         None => false,
@@ -174,6 +178,17 @@ pub fn executed(connection: &Connection) -> Option<&Statement>
     match connection.executed {
         Some(at) => statement_at(connection.statements.as_slice(), at),
         None => None,
+    }
+}
+
+// The account of the last outcome; none where none was asked for then, or where it was cleared since.
+fn account(connection: &Connection) -> Option<&[Entry]>
+    ensures { option_copied result ≡ account connection.now }
+{
+    if connection.is_told {
+        Some(connection.session.account())
+    } else {
+        None
     }
 }
 
@@ -198,7 +213,7 @@ fn lines(
         executed(connection),
         &connection.outcome,
         connection.session.catalogue(),
-        connection.session.account(),
+        account(connection),
     )?;
     Ok(writer.into_inner())
 }

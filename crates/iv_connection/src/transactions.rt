@@ -32,8 +32,10 @@ pub fn commit_kept(connection: &mut Connection)
       session = connection.new.session;
       outcome = connection.new.outcome;
       executed = None;
+      is_told = connection.old.session.account.asked;
     } }
 {
+    connection.is_told = connection.session.explains();
     connection.outcome = commit(&mut connection.session);
     connection.executed = None;
 }

@@ -2,12 +2,12 @@
 use Rattle.std.proofs.Common.{refl}
 use Rattle.std.specs.Fmt.{digits}
 use Rattle.iv_print.specs.Rules.{names_listed, names_text, references_words}
-use Rattle.iv_print.specs.Ways.{limit_text, next_text}
+use Rattle.iv_print.specs.Ways.{begun_after, limit_text}
 use Rattle.iv_print.specs.WorkedAccounts.{WorkedAccounts}
 use Rattle.iv_print.specs.WorkedConditions.{WorkedConditions, WorkedRules}
 
 pub accounts : WorkedAccounts
-unfolding digits limit_text next_text names_listed names_text references_words
+unfolding digits begun_after limit_text names_listed names_text references_words
 accounts = record {
   nothing_is_told = refl;
   changes = refl;

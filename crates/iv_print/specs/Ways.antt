@@ -62,27 +62,28 @@ abbrev pub begun_text : Schema → Option Begun → List ℕ
 begun_text s (Some b) = name_of_trigger s b.trigger ++ (codes " statement " ++ decimal b.place)
 begun_text s None = []
 
--- the one at this level, after another
-unfoldable pub next_text : Schema → List Entry → ℕ → List ℕ
-next_text s entries level = codes ", " ++ begun_text s (begun_at level entries)
+-- the one at this level, after these words
+unfoldable pub begun_after : Schema → List Entry → List ℕ → ℕ → List ℕ
+begun_after s entries words level = words ++ begun_text s (begun_at level entries)
 
--- What follows the first three of so many further ones: the fourth if it is the last, and otherwise only the last.
+-- what stands before the last of so many further ones: of more than three, those from the fourth to the one before the last are left out
+abbrev pub before_last : ℕ → List ℕ
+before_last more = if more == 3 then codes ", " else codes ", .., "
+
+-- the last of so many further ones, after the first three statements
 abbrev pub last_text : Schema → List Entry → ℕ → List ℕ
-last_text s entries more =
-    if more == 2 then [] else (if more == 3 then next_text s entries 3 else codes ", .." ++ next_text s entries more)
+last_text s entries more = if more == 2 then [] else begun_after s entries (before_last more) more
 
 abbrev pub third_text : Schema → List Entry → ℕ → List ℕ
-third_text s entries more = if more == 1 then [] else next_text s entries 2 ++ last_text s entries more
+third_text s entries more = if more == 1 then [] else begun_after s entries (codes ", ") 2 ++ last_text s entries more
 
 -- those after the first
 abbrev pub further_text : Schema → List Entry → ℕ → List ℕ
-further_text s entries more = if more == 0 then [] else next_text s entries 1 ++ third_text s entries more
+further_text s entries more = if more == 0 then [] else begun_after s entries (codes ", ") 1 ++ third_text s entries more
 
 -- The statements that have begun and not ended, from the outermost to the innermost: so many.
 abbrev pub way_text : Schema → List Entry → ℕ → List ℕ
-way_text s entries depth =
-    if depth == 0 then []
-    else codes ": " ++ (begun_text s (begun_at 0 entries) ++ further_text s entries (depth - 1))
+way_text s entries depth = if depth == 0 then [] else begun_after s entries (codes ": ") 0 ++ further_text s entries (depth - 1)
 
 -- ---- what was counted
 

@@ -7,13 +7,14 @@ ghost use Rattle.iv_key.specs.Keys.{key_of};
 ghost use Rattle.iv_machine.specs.BeforeTriggers.{event_of_change};
 ghost use Rattle.iv_print.specs.Writing.{Writes};
 ghost use Rattle.iv_print.specs.Lines.{value_text, further_text, values_text};
-ghost use Rattle.iv_print.specs.AccountLines.{spaces, indent, table_name, column_name, column_name_in, numbered_text, listed_text, side_text, verb, sides_text, change_text, change_line, change_lines, action_words, action_line, action_lines, asked_text, ran_lines, truth_name, skipped_line, nothing_text, began_line, reference_words_of, referenced_text, reference_text, equal_text, key_text, null_text, rule_text, constraint_rule_text, fault_rows_text, fault_line, ends_next, entry_text, entries_text, account_text};
+ghost use Rattle.iv_print.specs.AccountLines.{spaces, indent, table_name, column_name_in, numbered_text, listed_text, side_text, verb, sides_text, change_text, change_line, change_lines, action_words, action_line, action_lines, asked_text, ran_lines, truth_name, skipped_line, nothing_text, began_line, reference_words_of, referenced_text, reference_text, equal_text, key_text, null_text, rule_text, constraint_rule_text, fault_rows_text, fault_line, ends_next, entry_text, entries_text, account_text};
 
 use crate::addition::write_not_added;
 use crate::check::write_check;
 use crate::conflict::write_conflict;
 use crate::device::{DeviceFault, Sink};
 use crate::failure::write_failure;
+use crate::names::{column_in, table_in};
 use crate::outcome::{write_borrowed, write_name, write_row_number, write_trigger, write_values};
 use crate::rule::write_described;
 use crate::standing::write_standing;
@@ -21,7 +22,7 @@ use crate::way::{depth_after, write_limit_line};
 use crate::write::{write_all, write_nothing, write_number};
 use iv_account::{Entry, RowAction, SkippedView, TriggerView};
 use iv_catalogue::{
-    Catalogue, Cause, Column, Constraint, ConstraintId, ForeignKey, Refusal, Rule, Table, TriggerId,
+    Catalogue, Cause, Constraint, ConstraintId, ForeignKey, Refusal, Rule, TriggerId,
 };
 use iv_expr::{Change, Row, StoredRow, TableId};
 use iv_key::{Key, value_at};
@@ -48,40 +49,29 @@ pub(crate) fn write_indent<W: Sink>(sink: &mut W, depth: usize) -> Result<(), De
     write_spaces(sink, depth)
 }
 
-/// The name of a table, where it is there.
-pub(crate) fn write_table<W: Sink>(sink: &mut W, table: Option<&Table>) -> Result<(), DeviceFault>
-    ensures { Writes (W.state sink.old) (W.state sink.new) result
-        (table_name (option_copied table.entry)) }
-{
-    match table {
-        Some(table) => write_all(sink, table.name.as_str().as_bytes()),
-        None => write_nothing(sink),
-    }
-}
-
-fn write_column<W: Sink>(sink: &mut W, columns: &[Column], column: u32) -> Result<(), DeviceFault>
-    ensures { Writes (W.state sink.old) (W.state sink.new) result
-        (column_name (slice_get columns.now column)) }
-{
-    match columns.get(column as usize) {
-        Some(column) => write_all(sink, column.name.as_str().as_bytes()),
-        None => write_nothing(sink),
-    }
-}
-
-/// The name of a column of a table, where both are there.
-pub(crate) fn write_column_in<W: Sink>(
+/// The name of a table.
+pub(crate) fn write_table<W: Sink>(
     sink: &mut W,
-    table: Option<&Table>,
-    column: u32,
+    catalogue: &Catalogue,
+    table: TableId,
 ) -> Result<(), DeviceFault>
     ensures { Writes (W.state sink.old) (W.state sink.new) result
-        (column_name_in (option_copied table.entry) column) }
+        (table_name (slice_get catalogue.now.tables table)) }
 {
-    match table {
-        Some(table) => write_column(sink, table.columns.as_slice(), column),
-        None => write_nothing(sink),
-    }
+    write_all(sink, table_in(catalogue, table).as_bytes())
+}
+
+/// The name of the column at this place of a table.
+pub(crate) fn write_column<W: Sink>(
+    sink: &mut W,
+    catalogue: &Catalogue,
+    table: TableId,
+    column: u64,
+) -> Result<(), DeviceFault>
+    ensures { Writes (W.state sink.old) (W.state sink.new) result
+        (column_name_in (slice_get catalogue.now.tables table) column) }
+{
+    write_all(sink, column_in(catalogue, table, column).as_bytes())
 }
 
 /// A table and the number of a row of it.
@@ -94,7 +84,7 @@ pub(crate) fn write_numbered<W: Sink>(
     ensures { Writes (W.state sink.old) (W.state sink.new) result
         (numbered_text catalogue.now table row) }
 {
-    write_table(sink, catalogue.table(table))?;
+    write_table(sink, catalogue, table)?;
     write_row_number(sink, row)
 }
 
@@ -415,7 +405,7 @@ pub(crate) fn write_referenced<W: Sink>(
         (referenced_text catalogue.now values.now key.now) }
 {
     write_all(sink, b" refers to ")?;
-    write_table(sink, catalogue.table(key.referenced))?;
+    write_table(sink, catalogue, key.referenced)?;
     write_listed_columns(sink, key.columns.as_slice(), values)
 }
 
@@ -482,7 +472,7 @@ fn write_null<W: Sink>(
         (null_text catalogue.now table column) }
 {
     write_all(sink, b" has NULL in ")?;
-    write_column_in(sink, catalogue.table(table), column)
+    write_column(sink, catalogue, table, u64::from(column))
 }
 
 /// What a rule finds wrong with a row.

@@ -4,9 +4,7 @@ ghost use Rattle.std.specs.Option.{option_copied};
 ghost use Rattle.iv_print.specs.Writing.{Writes};
 ghost use Rattle.iv_print.specs.AccountLines.{conflict_line, conflict_text, earlier_text, later_text, refers_text, rule_refers_text, settings_text};
 
-use crate::account::{
-    write_column_in, write_indent, write_listed, write_numbered, write_referenced,
-};
+use crate::account::{write_column, write_indent, write_listed, write_numbered, write_referenced};
 use crate::device::{DeviceFault, Sink};
 use crate::outcome::{write_name, write_value};
 use crate::rule::write_described;
@@ -61,7 +59,7 @@ fn write_earlier<W: Sink>(
     write_all(sink, b", and ")?;
     write_name(sink, catalogue.constraints(), how.earlier)?;
     write_all(sink, b" sets ")?;
-    write_column_in(sink, catalogue.table(table), how.column)?;
+    write_column(sink, catalogue, table, u64::from(how.column))?;
     write_all(sink, b" to ")?;
     write_value(sink, &how.earlier_value)
 }

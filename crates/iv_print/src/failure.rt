@@ -1,46 +1,22 @@
 //! The line of what failed where a number is out of range or a text is too long.
-ghost use Rattle.std.specs.Prelude.{◌≡◌, ◌++◌, codes, decimal, slice_get};
-ghost use Rattle.std.specs.Option.{option_copied};
+ghost use Rattle.std.specs.Prelude.{◌≡◌, ◌++◌, codes, decimal};
 ghost use Rattle.std.specs.Fmt.{signed_decimal};
 ghost use Rattle.iv_account.specs.declared.failure.EvaluatedFor.TheVariants as part;
 ghost use Rattle.iv_account.specs.declared.failure.ValueFailure.TheVariants as failure;
 ghost use Rattle.iv_print.specs.Lines.{trigger_text};
 ghost use Rattle.iv_print.specs.Writing.{Writes};
-ghost use Rattle.iv_print.specs.AccountLines.{column_name, column_name_in, evaluated_text, failure_line, failure_text, operator_text, part_in_table, part_name};
+ghost use Rattle.iv_print.specs.AccountLines.{evaluated_text, failure_line, failure_text, operator_text, part_in_table, part_name};
 
-use crate::account::{write_indent, write_listed, write_numbered, write_side, write_table};
+use crate::account::{
+    write_column, write_indent, write_listed, write_numbered, write_side, write_table,
+};
 use crate::device::{DeviceFault, Sink};
 use crate::outcome::write_trigger;
 use crate::write::{write_all, write_nothing, write_number};
 use itoa::Buffer;
 use iv_account::{EvaluatedFor, FailedEvaluation, Operator, RowAtHand, ValueFailure};
-use iv_catalogue::{Catalogue, Column, Table, TriggerId};
+use iv_catalogue::{Catalogue, TriggerId};
 use iv_expr::TableId;
-
-fn write_column<W: Sink>(sink: &mut W, columns: &[Column], column: u64) -> Result<(), DeviceFault>
-    ensures { Writes (W.state sink.old) (W.state sink.new) result
-        (column_name (slice_get columns.now column)) }
-{
-    match columns.get(column as usize) {
-        Some(column) => write_all(sink, column.name.as_str().as_bytes()),
-        None => write_nothing(sink),
-    }
-}
-
-// The name of the column at this place of a table.
-fn write_column_at<W: Sink>(
-    sink: &mut W,
-    table: Option<&Table>,
-    column: u64,
-) -> Result<(), DeviceFault>
-    ensures { Writes (W.state sink.old) (W.state sink.new) result
-        (column_name_in (option_copied table.entry) column) }
-{
-    match table {
-        Some(table) => write_column(sink, table.columns.as_slice(), column),
-        None => write_nothing(sink),
-    }
-}
 
 // A trigger after these words.
 fn write_trigger_after<W: Sink>(
@@ -65,9 +41,7 @@ fn write_part<W: Sink>(
     ensures { Writes (W.state sink.old) (W.state sink.new) result (part_name catalogue.now part) }
 {
     match part {
-        EvaluatedFor::Column(table, column) => {
-            write_column_at(sink, catalogue.table(table), column)
-        }
+        EvaluatedFor::Column(table, column) => { write_column(sink, catalogue, table, column) }
         EvaluatedFor::Item(place) => {
             write_all(sink, b"item ")?;
             write_number(sink, place)
@@ -87,9 +61,9 @@ fn write_column_of<W: Sink>(
     ensures { Writes (W.state sink.old) (W.state sink.new) result
         (part_in_table catalogue.now (part.Column table column)) }
 {
-    write_column_at(sink, catalogue.table(table), column)?;
+    write_column(sink, catalogue, table, column)?;
     write_all(sink, b" of ")?;
-    write_table(sink, catalogue.table(table))
+    write_table(sink, catalogue, table)
 }
 
 // What was evaluated, with the table of a column.

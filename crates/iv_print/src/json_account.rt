@@ -5,7 +5,7 @@ ghost use Rattle.std.specs.Option.{option_copied};
 ghost use Rattle.iv_value.specs.References.{value_of};
 ghost use Rattle.iv_key.specs.Keys.{key_of};
 ghost use Rattle.iv_print.specs.Writing.{Writes};
-ghost use Rattle.iv_print.specs.AccountLines.{column_name, column_name_in, table_name};
+ghost use Rattle.iv_print.specs.AccountLines.{column_name_in, table_name};
 ghost use Rattle.iv_print.specs.Json.{further_value, json_text, json_values};
 ghost use Rattle.iv_print.specs.JsonAccounts.{acted_entry, acting_members, action_name, because, began_entry, begins, changed_entry, changes_nothing, constraint_rule_members, ends, entry_key, equal_members, event_member, event_name, further_action, further_change, json_account, json_action, json_actions, json_change, json_changes, json_entries, json_entry, key_members, nothing_member, null_members, place_members, ran_entry, reference_members, reference_reason, referenced_members, rule_members, saw_member, seen_members, skipped_entry, skipped_members, separator, side_member, side_members, violation_entry, violation_members};
 ghost use Rattle.iv_machine.specs.BeforeTriggers.{event_of_change};
@@ -23,11 +23,12 @@ use crate::json_failure::write_failure;
 use crate::json_rule::write_described;
 use crate::json_standing::write_standing;
 use crate::json_way::write_limit_entry;
+use crate::names::{column_in, table_in};
 use crate::way::depth_after;
 use crate::write::{write_all, write_nothing, write_number};
 use iv_account::{Entry, RowAction, SkippedView, TriggerView};
 use iv_catalogue::{
-    Catalogue, Cause, Column, Constraint, ConstraintId, ForeignKey, Refusal, Rule, Table, TriggerId,
+    Catalogue, Cause, Constraint, ConstraintId, ForeignKey, Refusal, Rule, TriggerId,
 };
 use iv_expr::{Change, Row, StoredRow, TableId};
 use iv_key::{Key, value_at};
@@ -37,15 +38,16 @@ use iv_value::{Value, ValueRef};
 
 // ---- rows and changes
 
-/// The name of a table, where it is there.
-pub(crate) fn write_table<W: Sink>(sink: &mut W, table: Option<&Table>) -> Result<(), DeviceFault>
+/// The name of a table.
+pub(crate) fn write_table<W: Sink>(
+    sink: &mut W,
+    catalogue: &Catalogue,
+    table: TableId,
+) -> Result<(), DeviceFault>
     ensures { Writes (W.state sink.old) (W.state sink.new) result
-        (json_text (table_name (option_copied table.entry))) }
+        (json_text (table_name (slice_get catalogue.now.tables table))) }
 {
-    match table {
-        Some(table) => write_json_text(sink, table.name.as_str().as_bytes()),
-        None => write_json_text(sink, b""),
-    }
+    write_json_text(sink, table_in(catalogue, table).as_bytes())
 }
 
 /// The table and the number of a row.
@@ -59,7 +61,7 @@ pub(crate) fn write_place<W: Sink>(
         (place_members catalogue.now table row) }
 {
     write_member(sink, b"table")?;
-    write_table(sink, catalogue.table(table))?;
+    write_table(sink, catalogue, table)?;
     write_number_member(sink, b"row", row)
 }
 
@@ -329,7 +331,7 @@ pub(crate) fn write_referenced<W: Sink>(
         (referenced_members catalogue.now values.now key.now) }
 {
     write_member(sink, b"referenced")?;
-    write_table(sink, catalogue.table(key.referenced))?;
+    write_table(sink, catalogue, key.referenced)?;
     write_member(sink, b"key")?;
     write_all(sink, b"[")?;
     write_columns(sink, key.columns.as_slice(), values)?;
@@ -390,29 +392,17 @@ fn write_equal_key<W: Sink>(sink: &mut W, others: &[StoredRow]) -> Result<(), De
     }
 }
 
-fn write_column<W: Sink>(sink: &mut W, columns: &[Column], column: u32) -> Result<(), DeviceFault>
-    ensures { Writes (W.state sink.old) (W.state sink.new) result
-        (json_text (column_name (slice_get columns.now column))) }
-{
-    match columns.get(column as usize) {
-        Some(column) => write_json_text(sink, column.name.as_str().as_bytes()),
-        None => write_json_text(sink, b""),
-    }
-}
-
-/// The name of a column of a table, where both are there.
-pub(crate) fn write_column_in<W: Sink>(
+/// The name of the column at this place of a table.
+pub(crate) fn write_column<W: Sink>(
     sink: &mut W,
-    table: Option<&Table>,
-    column: u32,
+    catalogue: &Catalogue,
+    table: TableId,
+    column: u64,
 ) -> Result<(), DeviceFault>
     ensures { Writes (W.state sink.old) (W.state sink.new) result
-        (json_text (column_name_in (option_copied table.entry) column)) }
+        (json_text (column_name_in (slice_get catalogue.now.tables table) column)) }
 {
-    match table {
-        Some(table) => write_column(sink, table.columns.as_slice(), column),
-        None => write_json_text(sink, b""),
-    }
+    write_json_text(sink, column_in(catalogue, table, column).as_bytes())
 }
 
 // The column that is null.
@@ -427,7 +417,7 @@ fn write_null<W: Sink>(
 {
     write_because(sink, b"null")?;
     write_member(sink, b"column")?;
-    write_column_in(sink, catalogue.table(table), column)
+    write_column(sink, catalogue, table, u64::from(column))
 }
 
 /// What a rule finds wrong with a row.

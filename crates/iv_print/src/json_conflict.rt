@@ -7,7 +7,7 @@ ghost use Rattle.iv_print.specs.JsonAccounts.{conflict_entry, conflict_members, 
 use crate::device::{DeviceFault, Sink};
 use crate::json::{write_member, write_name, write_row, write_value};
 use crate::json_account::{
-    write_because, write_column_in, write_entry_key, write_place, write_referenced,
+    write_because, write_column, write_entry_key, write_place, write_referenced,
 };
 use crate::json_rule::write_described;
 use crate::write::{write_all, write_nothing};
@@ -64,7 +64,7 @@ fn write_settings<W: Sink>(
     write_member(sink, b"other_constraint")?;
     write_name(sink, catalogue.constraints(), how.earlier)?;
     write_member(sink, b"column")?;
-    write_column_in(sink, catalogue.table(table), how.column)?;
+    write_column(sink, catalogue, table, u64::from(how.column))?;
     write_member(sink, b"value")?;
     write_value(sink, &how.value)?;
     write_member(sink, b"other_value")?;

@@ -1,13 +1,10 @@
 //! What failed where a number is out of range or a text is too long, as JSON.
-ghost use Rattle.std.specs.Prelude.{◌≡◌, slice_get};
-ghost use Rattle.std.specs.Option.{option_copied};
+ghost use Rattle.std.specs.Prelude.{◌≡◌};
 ghost use Rattle.std.specs.Fmt.{signed_decimal};
 ghost use Rattle.iv_account.specs.declared.failure.EvaluatedFor.TheVariants as part;
 ghost use Rattle.iv_account.specs.declared.failure.RowAtHand.TheVariants as hand;
 ghost use Rattle.iv_account.specs.declared.failure.ValueFailure.TheVariants as failure;
 ghost use Rattle.iv_print.specs.Writing.{Writes};
-ghost use Rattle.iv_print.specs.AccountLines.{column_name, column_name_in};
-ghost use Rattle.iv_print.specs.Json.{json_text};
 ghost use Rattle.iv_print.specs.JsonAccounts.{failure_entry, failure_members, hand_members, integer_member, operator_member, operator_sign, part_members, stored_members};
 
 use crate::device::{DeviceFault, Sink};
@@ -15,37 +12,14 @@ use crate::json::{
     write_json_text, write_member, write_number_member, write_row, write_text_member,
     write_trigger_name,
 };
-use crate::json_account::{write_because, write_entry_key, write_place, write_side, write_table};
+use crate::json_account::{
+    write_because, write_column, write_entry_key, write_place, write_side, write_table,
+};
 use crate::write::write_all;
 use itoa::Buffer;
 use iv_account::{EvaluatedFor, FailedEvaluation, Operator, RowAtHand, ValueFailure};
-use iv_catalogue::{Catalogue, Column, Table};
+use iv_catalogue::Catalogue;
 use iv_expr::{StoredRow, TableId};
-
-fn write_column<W: Sink>(sink: &mut W, columns: &[Column], column: u64) -> Result<(), DeviceFault>
-    ensures { Writes (W.state sink.old) (W.state sink.new) result
-        (json_text (column_name (slice_get columns.now column))) }
-{
-    match columns.get(column as usize) {
-        Some(column) => write_json_text(sink, column.name.as_str().as_bytes()),
-        None => write_json_text(sink, b""),
-    }
-}
-
-// The name of the column at this place of a table.
-fn write_column_at<W: Sink>(
-    sink: &mut W,
-    table: Option<&Table>,
-    column: u64,
-) -> Result<(), DeviceFault>
-    ensures { Writes (W.state sink.old) (W.state sink.new) result
-        (json_text (column_name_in (option_copied table.entry) column)) }
-{
-    match table {
-        Some(table) => write_column(sink, table.columns.as_slice(), column),
-        None => write_json_text(sink, b""),
-    }
-}
 
 // The column whose value was evaluated.
 fn write_column_part<W: Sink>(
@@ -59,9 +33,9 @@ fn write_column_part<W: Sink>(
 {
     write_text_member(sink, b"part", b"column")?;
     write_member(sink, b"column_of")?;
-    write_table(sink, catalogue.table(table))?;
+    write_table(sink, catalogue, table)?;
     write_member(sink, b"column")?;
-    write_column_at(sink, catalogue.table(table), column)
+    write_column(sink, catalogue, table, column)
 }
 
 // What was evaluated.

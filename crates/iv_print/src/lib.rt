@@ -19,6 +19,7 @@ mod json_failure;
 mod json_rule;
 mod json_standing;
 mod json_way;
+mod names;
 mod outcome;
 mod pending;
 mod rule;

@@ -1,5 +1,5 @@
 //! Texts as they are, or as they stand between the quotes of JSON.
-ghost use Rattle.std.specs.Prelude.{◌++◌};
+ghost use Rattle.std.specs.Prelude.{[], ◌++◌};
 ghost use Rattle.iv_print.specs.Writing.{Writes};
 ghost use Rattle.iv_print.specs.Spelled.{spelled};
 

@@ -2,7 +2,7 @@
 ghost use Rattle.std.specs.Prelude.{◌≡◌, ◌<◌, ◌^◌, ◌-◌, ◌++◌, [], Some, None, codes, decimal};
 ghost use Rattle.iv_print.specs.Counts.{counted};
 ghost use Rattle.iv_print.specs.Spelled.{spelled};
-ghost use Rattle.iv_print.specs.Ways.{begun_at, begun_text, depth_after, depth_from, depth_words, further_text, last_text, latest_after, latest_from, limit_line, limit_of, limit_text, limit_words, name_of_trigger, next_text, third_text, transaction_words, used_after, used_from, used_words, way_text};
+ghost use Rattle.iv_print.specs.Ways.{before_last, begun_after, begun_at, begun_text, depth_after, depth_from, depth_words, further_text, last_text, latest_after, latest_from, limit_line, limit_of, limit_text, limit_words, name_of_trigger, third_text, transaction_words, used_after, used_from, used_words, way_text};
 ghost use Rattle.iv_machine.specs.Bounds.{most_changes_in_a_transaction};
 ghost use Rattle.iv_print.specs.Writing.{Writes};
 
@@ -136,7 +136,7 @@ fn tell_begun<W: Sink>(
     }
 }
 
-// The statement at this level.
+// The statement that began last at this level.
 fn tell_begun_at<W: Sink>(
     writer: &mut W,
     format: Format,
@@ -151,7 +151,7 @@ fn tell_begun_at<W: Sink>(
 }
 
 // The same after these words.
-#[tactic(auto, using(crate::proofs::SpelledLemmas::spelled_then))]
+#[tactic(auto, using(crate::proofs::SpelledLemmas::spelled_then), unfolding(crate::specs::Ways::begun_after))]
 fn tell_begun_after<W: Sink>(
     writer: &mut W,
     format: Format,
@@ -161,45 +161,20 @@ fn tell_begun_after<W: Sink>(
     level: usize,
 ) -> Result<(), DeviceFault>
     ensures { Writes (W.state writer.old) (W.state writer.new) result
-        (spelled format (words.now ++ begun_text catalogue.now (begun_at level entries.now))) }
+        (spelled format (begun_after catalogue.now entries.now words.now level)) }
 {
     tell(writer, format, words)?;
     tell_begun_at(writer, format, catalogue, entries, level)
 }
 
-// The statement at this level, after another.
-#[tactic(auto, unfolding(crate::specs::Ways::next_text))]
-fn tell_next<W: Sink>(
-    writer: &mut W,
-    format: Format,
-    catalogue: &Catalogue,
-    entries: &[Entry],
-    level: usize,
-) -> Result<(), DeviceFault>
-    ensures { Writes (W.state writer.old) (W.state writer.new) result
-        (spelled format (next_text catalogue.now entries.now level)) }
+// What stands before the last of so many further ones.
+fn before_last(more: usize) -> &'static str
+    ensures { result.now ≡ before_last more }
 {
-    tell_begun_after(writer, format, b", ", catalogue, entries, level)
+    if more == 3 { ", " } else { ", .., " }
 }
 
-// The same after these words.
-#[tactic(auto, using(crate::proofs::SpelledLemmas::spelled_then))]
-fn tell_next_after<W: Sink>(
-    writer: &mut W,
-    format: Format,
-    words: &[u8],
-    catalogue: &Catalogue,
-    entries: &[Entry],
-    level: usize,
-) -> Result<(), DeviceFault>
-    ensures { Writes (W.state writer.old) (W.state writer.new) result
-        (spelled format (words.now ++ next_text catalogue.now entries.now level)) }
-{
-    tell(writer, format, words)?;
-    tell_next(writer, format, catalogue, entries, level)
-}
-
-// What follows the first three of so many further ones.
+// The last of so many further ones, where it isn't the third statement.
 fn tell_last<W: Sink>(
     writer: &mut W,
     format: Format,
@@ -212,28 +187,14 @@ fn tell_last<W: Sink>(
 {
     if more == 2 {
         tell_nothing(writer, format)
-    } else if more == 3 {
-        tell_next(writer, format, catalogue, entries, 3)
     } else {
-        tell_next_after(writer, format, b", ..", catalogue, entries, more)
+        let words = before_last(more);
+        tell_begun_after(writer, format, words.as_bytes(), catalogue, entries, more)
     }
 }
 
+// The third statement, where there is one, and the last.
 #[tactic(auto, using(crate::proofs::SpelledLemmas::spelled_then))]
-fn tell_third_and_last<W: Sink>(
-    writer: &mut W,
-    format: Format,
-    catalogue: &Catalogue,
-    entries: &[Entry],
-    more: usize,
-) -> Result<(), DeviceFault>
-    ensures { Writes (W.state writer.old) (W.state writer.new) result
-        (spelled format (next_text catalogue.now entries.now 2 ++ last_text catalogue.now entries.now more)) }
-{
-    tell_next(writer, format, catalogue, entries, 2)?;
-    tell_last(writer, format, catalogue, entries, more)
-}
-
 fn tell_third<W: Sink>(
     writer: &mut W,
     format: Format,
@@ -245,28 +206,14 @@ fn tell_third<W: Sink>(
         (spelled format (third_text catalogue.now entries.now more)) }
 {
     if more == 1 {
-        tell_nothing(writer, format)
-    } else {
-        tell_third_and_last(writer, format, catalogue, entries, more)
+        return tell_nothing(writer, format);
     }
-}
-
-#[tactic(auto, using(crate::proofs::SpelledLemmas::spelled_then))]
-fn tell_second_and_third<W: Sink>(
-    writer: &mut W,
-    format: Format,
-    catalogue: &Catalogue,
-    entries: &[Entry],
-    more: usize,
-) -> Result<(), DeviceFault>
-    ensures { Writes (W.state writer.old) (W.state writer.new) result
-        (spelled format (next_text catalogue.now entries.now 1 ++ third_text catalogue.now entries.now more)) }
-{
-    tell_next(writer, format, catalogue, entries, 1)?;
-    tell_third(writer, format, catalogue, entries, more)
+    tell_begun_after(writer, format, b", ", catalogue, entries, 2)?;
+    tell_last(writer, format, catalogue, entries, more)
 }
 
 // Those after the first.
+#[tactic(auto, using(crate::proofs::SpelledLemmas::spelled_then))]
 fn tell_further<W: Sink>(
     writer: &mut W,
     format: Format,
@@ -278,32 +225,14 @@ fn tell_further<W: Sink>(
         (spelled format (further_text catalogue.now entries.now more)) }
 {
     if more == 0 {
-        tell_nothing(writer, format)
-    } else {
-        tell_second_and_third(writer, format, catalogue, entries, more)
+        return tell_nothing(writer, format);
     }
-}
-
-// The first after these words, and so many further ones.
-#[tactic(auto, using(crate::proofs::SpelledLemmas::spelled_then))]
-fn tell_some<W: Sink>(
-    writer: &mut W,
-    format: Format,
-    words: &[u8],
-    catalogue: &Catalogue,
-    entries: &[Entry],
-    more: usize,
-) -> Result<(), DeviceFault>
-    ensures { Writes (W.state writer.old) (W.state writer.new) result
-        (spelled format (words.now
-        ++ (begun_text catalogue.now (begun_at 0 entries.now) ++ further_text catalogue.now entries.now more))) }
-{
-    tell(writer, format, words)?;
-    tell_begun_at(writer, format, catalogue, entries, 0)?;
-    tell_further(writer, format, catalogue, entries, more)
+    tell_begun_after(writer, format, b", ", catalogue, entries, 1)?;
+    tell_third(writer, format, catalogue, entries, more)
 }
 
 // The statements that have begun and not ended.
+#[tactic(auto, using(crate::proofs::SpelledLemmas::spelled_then))]
 fn tell_way<W: Sink>(
     writer: &mut W,
     format: Format,
@@ -315,10 +244,10 @@ fn tell_way<W: Sink>(
         (spelled format (way_text catalogue.now entries.now depth)) }
 {
     if depth == 0 {
-        tell_nothing(writer, format)
-    } else {
-        tell_some(writer, format, b": ", catalogue, entries, depth - 1)
+        return tell_nothing(writer, format);
     }
+    tell_begun_after(writer, format, b": ", catalogue, entries, 0)?;
+    tell_further(writer, format, catalogue, entries, depth - 1)
 }
 
 // ---- what was counted

@@ -1,5 +1,5 @@
 //! Bytes and numbers, written to a sink.
-ghost use Rattle.std.specs.Prelude.{◌≡◌, ℕ, decimal};
+ghost use Rattle.std.specs.Prelude.{◌≡◌, [], ℕ, decimal};
 ghost use Rattle.iv_print.specs.Writing.{Writes};
 
 use crate::device::{DeviceFault, Sink};

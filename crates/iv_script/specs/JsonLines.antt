@@ -27,7 +27,7 @@ use Rattle.iv_script.specs.declared.place.Place.{Place}
 abbrev pub number_key : ℕ → List ℕ
 number_key n = codes "{" ++ (key (codes "number") ++ decimal n)
 
--- the account, where accounts are asked for
+-- the account, where it is told
 abbrev pub account_member : Bool → Schema → Result Answer Refusal → List Entry → List ℕ
 account_member true s r told = member (codes "account") ++ json_account s r told
 account_member false s r told = []
@@ -44,12 +44,12 @@ columns_member_of _ s st _ = []
 
 -- The line of the n-th statement: its outcome, the columns of a query, the name or the reason of its refusal, its account, and the violations
 -- of deferred constraints that came and went.
-abbrev pub json_line : Bool → ℕ → Option Statement → Schema → Result Answer Refusal → List Entry → List Entry → List Fault → List ℕ
-json_line asked n st s r told came went =
+abbrev pub json_line : Bool → Bool → ℕ → Option Statement → Schema → Result Answer Refusal → List Entry → List Entry → List Fault → List ℕ
+json_line asked is_told n st s r told came went =
     number_key n
     ++ (outcome_members s r
     ++ (columns_member_of asked s st r
-    ++ (about_member asked s st r ++ (account_member asked s r told ++ (pending_members s came went ++ codes "}\n")))))
+    ++ (about_member asked s st r ++ (account_member is_told s r told ++ (pending_members s came went ++ codes "}\n")))))
 
 -- the line and the column of a byte of a text
 abbrev pub place_members : Place → List ℕ

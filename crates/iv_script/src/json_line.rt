@@ -36,15 +36,15 @@ fn write_number_key<W: Sink>(writer: &mut W, number: u64) -> Result<(), DeviceFa
 #[tactic(auto, using(iv_print::proofs::WriteLemmas::writes_then))]
 fn write_account_member<W: Sink>(
     writer: &mut W,
-    explain: bool,
+    is_told: bool,
     catalogue: &Catalogue,
     outcome: &Outcome,
     account: &[Entry],
 ) -> Result<(), DeviceFault>
     ensures { Writes (W.state writer.old) (W.state writer.new) result
-        (account_member explain catalogue.now outcome.now account.now) }
+        (account_member is_told catalogue.now outcome.now account.now) }
 {
-    if explain {
+    if is_told {
         write_member(writer, b"account")?;
         write_json_account(writer, catalogue, outcome, account)
     } else {
@@ -124,20 +124,14 @@ pub fn write_json_line<W: Sink>(
     told: Told<'_>,
 ) -> Result<(), DeviceFault>
     ensures { Writes (W.state writer.old) (W.state writer.new) result
-        (json_line telling.style.explain number (option_copied statement.entry) catalogue.now outcome.now
+        (json_line telling.style.explain told.entry.is_told number (option_copied statement.entry) catalogue.now outcome.now
         told.entry.account.now told.entry.came.now told.entry.went.now) }
 {
     write_number_key(writer, number)?;
     write_outcome_members(writer, outcome, catalogue)?;
     write_columns(writer, telling, statement, outcome, catalogue)?;
     write_about(writer, telling, catalogue, statement, outcome)?;
-    write_account_member(
-        writer,
-        telling.style.explain,
-        catalogue,
-        outcome,
-        told.account,
-    )?;
+    write_account_member(writer, told.is_told, catalogue, outcome, told.account)?;
     write_pending_members(writer, catalogue, told.came, told.went)?;
     write_all(writer, b"}\n")
 }

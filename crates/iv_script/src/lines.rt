@@ -23,6 +23,8 @@ use iv_syntax::Statement;
 #[derive(Clone, Copy)]
 pub struct Told<'a> {
     pub account: &'a [Entry],
+    /// Whether the account is told: it was asked for when the statement ran.
+    pub is_told: bool,
     pub came: &'a [Entry],
     pub went: &'a [Fault],
 }
@@ -87,18 +89,18 @@ fn write_columns<W: Sink>(
     }
 }
 
-// The lines of the account, where accounts are asked for.
+// The lines of the account, where it is told.
 fn write_account_of<W: Sink>(
     writer: &mut W,
-    telling: Telling,
+    is_told: bool,
     catalogue: &Catalogue,
     outcome: &Outcome,
     account: &[Entry],
 ) -> Result<(), DeviceFault>
     ensures { Writes (W.state writer.old) (W.state writer.new) result
-        (account_lines_of telling.style.explain catalogue.now outcome.now account.now) }
+        (account_lines_of is_told catalogue.now outcome.now account.now) }
 {
-    if telling.style.explain {
+    if is_told {
         write_account(writer, catalogue, outcome, account)
     } else {
         write_nothing(writer)
@@ -120,14 +122,14 @@ fn write_words<W: Sink>(
         (first_line number outcome.now catalogue.now
         ++ (columns_line_of telling.style.explain catalogue.now (option_copied statement.entry) outcome.now
         ++ (row_lines outcome.now
-        ++ (account_lines_of telling.style.explain catalogue.now outcome.now told.entry.account.now
+        ++ (account_lines_of told.entry.is_told catalogue.now outcome.now told.entry.account.now
         ++ (name_line_of telling.style.explain catalogue.now (option_copied statement.entry) outcome.now
         ++ pending_lines catalogue.now told.entry.came.now told.entry.went.now))))) }
 {
     write_first_line(writer, number, outcome, catalogue)?;
     write_columns(writer, telling, statement, outcome, catalogue)?;
     write_row_lines(writer, outcome)?;
-    write_account_of(writer, telling, catalogue, outcome, told.account)?;
+    write_account_of(writer, told.is_told, catalogue, outcome, told.account)?;
     write_name_of(writer, telling, catalogue, statement, outcome)?;
     write_pending_lines(writer, catalogue, told.came, told.went)
 }
@@ -143,7 +145,7 @@ pub(crate) fn write_told<W: Sink>(
     told: Told<'_>,
 ) -> Result<(), DeviceFault>
     ensures { Writes (W.state writer.old) (W.state writer.new) result
-        (lines_in telling.style.format telling.style.explain number (option_copied statement.entry) catalogue.now
+        (lines_in telling.style.format telling.style.explain told.entry.is_told number (option_copied statement.entry) catalogue.now
         outcome.now told.entry.account.now told.entry.came.now told.entry.went.now) }
 {
     match telling.style.format {
@@ -154,8 +156,9 @@ pub(crate) fn write_told<W: Sink>(
     }
 }
 
-/// Writes the lines of a statement's outcome, those of its account, and, where accounts are asked for and the statement
-/// is known, the columns of a query above its rows, or the name or the reason of a refusal.
+/// Writes the lines of a statement's outcome, and, where accounts are asked for and the statement is known, the columns
+/// of a query above its rows, or the name or the reason of a refusal. The account is given where it was asked for when
+/// the statement ran: without one a refusal for a limit has no line of what was counted.
 pub fn write_lines<W: Sink>(
     writer: &mut W,
     telling: Telling,
@@ -163,15 +166,25 @@ pub fn write_lines<W: Sink>(
     statement: Option<&Statement>,
     outcome: &Outcome,
     catalogue: &Catalogue,
-    account: &[Entry],
+    account: Option<&[Entry]>,
 ) -> Result<(), DeviceFault>
     ensures { Writes (W.state writer.old) (W.state writer.new) result
-        (outcome_lines telling.style number (option_copied statement.entry) catalogue.now outcome.now account.now) }
+        (outcome_lines telling.style number (option_copied statement.entry) catalogue.now outcome.now
+        (option_copied account.entry)) }
 {
-    let told = Told {
-        account,
-        came: &[],
-        went: &[],
+    let told = match account {
+        Some(account) => Told {
+            account,
+            is_told: true,
+            came: &[],
+            went: &[],
+        },
+        None => Told {
+            account: &[],
+            is_told: false,
+            came: &[],
+            went: &[],
+        },
     };
     write_told(writer, telling, number, statement, outcome, catalogue, told)
 }

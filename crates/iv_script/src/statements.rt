@@ -80,11 +80,12 @@ fn write_statement<S: Executor, W: Sink>(
     news: &News,
 ) -> Result<(), DeviceFault>
     ensures { Writes (W.state writer.old) (W.state writer.new) result
-        (lines_in telling.style.format telling.style.explain number (Some statement.now)
+        (lines_in telling.style.format telling.style.explain telling.style.explain number (Some statement.now)
         (S.state session.now).schema outcome.now (S.told session.now).entries news.now.came.entries news.now.went.items) }
 {
     let told = Told {
         account: session.account(),
+        is_told: telling.style.explain,
         came: news.came.entries(),
         went: news.went.as_slice(),
     };

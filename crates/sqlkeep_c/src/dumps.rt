@@ -1,5 +1,5 @@
 //! The database as scripts.
-ghost use Rattle.std.specs.Prelude.{◌≡◌, ◌≢◌, length, slice_get, IfSome};
+ghost use Rattle.std.specs.Prelude.{◌≡◌, ◌≢◌, false, length, slice_get, IfSome};
 ghost use Rattle.iv_dump.specs.Dumps.{AreDump};
 ghost use Rattle.iv_dump.specs.Scripts.{AreShort};
 ghost use Rattle.iv_connection.specs.Copying.{Copies};
@@ -22,7 +22,9 @@ pub extern "C" fn sqlkeep_dump(alloc: Global, handle: &mut Handle, scripts: &mut
     ensures state { Called handle.old.kept.behind handle.new.kept.behind (λ old new.
         new.session.state ≡ old.session.state) }
     ensures rest { Called handle.old.kept.behind handle.new.kept.behind (λ old new.
-        new ≡ record old { session = new.session; dump = new.dump }) }
+        new ≡ record old { session = new.session; dump = new.dump; is_told = new.is_told }) }
+    ensures untold { Called handle.old.kept.behind handle.new.kept.behind (λ old new.
+        result ≢ IN_TRANSACTION → new.is_told ≡ false) }
     ensures last { Called handle.old.kept.behind handle.new.kept.behind (λ old new.
         result ≢ OK → new.dump ≡ old.dump) }
     ensures in_transaction { result ≡ IN_TRANSACTION → handle.new.kept.behind ≡ handle.old.kept.behind }

@@ -54,13 +54,14 @@ pub extern "C" fn sqlkeep_close(alloc: Global, handle: &mut Handle) -> u32
 #[unsafe(no_mangle)]
 pub extern "C" fn sqlkeep_explain(alloc: Global, handle: &mut Handle, asked: u32) -> u32
     ensures asked { Called handle.old.kept.behind handle.new.kept.behind (λ old new.
-        new ≡ record old { session = with_account old.session (no_account (not (asked == 0))) }) }
+        new ≡ record old { session = with_account old.session (no_account (not (asked == 0))); is_told = false }) }
     ensures status { result ≡ status_if_open handle.old.kept.behind }
 {
     let Some(mut connection) = take(handle, alloc) else {
         return CLOSED;
     };
     connection.session.explain(asked != 0);
+    connection.is_told = false;
     put(handle, connection);
     OK
 }

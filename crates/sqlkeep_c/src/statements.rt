@@ -92,7 +92,12 @@ pub extern "C" fn sqlkeep_execute(
     ensures shown { Called handle.old.kept.behind handle.new.kept.behind (λ old new.
         result ≡ OK → outcome.new ≡ outcome_shown new.outcome) }
     ensures rest { Called handle.old.kept.behind handle.new.kept.behind (λ old new. result ≡ OK
-        → new ≡ record old { session = new.session; outcome = new.outcome; executed = Some at }) }
+        → new ≡ record old {
+          session = new.session;
+          outcome = new.outcome;
+          executed = Some at;
+          is_told = old.session.account.asked;
+        }) }
     ensures others { result ≢ OK → (handle.new.kept.behind ≡ handle.old.kept.behind)
         × (outcome.new ≡ outcome.old) }
     ensures status { result

@@ -28,7 +28,12 @@ pub extern "C" fn sqlkeep_commit(
     ensures shown { Called handle.old.kept.behind handle.new.kept.behind (λ old new.
         outcome.new ≡ outcome_shown new.outcome) }
     ensures rest { Called handle.old.kept.behind handle.new.kept.behind (λ old new.
-        new ≡ record old { session = new.session; outcome = new.outcome; executed = None }) }
+        new ≡ record old {
+          session = new.session;
+          outcome = new.outcome;
+          executed = None;
+          is_told = old.session.account.asked;
+        }) }
     ensures others { result ≢ OK → outcome.new ≡ outcome.old }
     ensures status { result ≡ status_if_open handle.old.kept.behind }
 {
@@ -55,13 +60,14 @@ pub extern "C" fn sqlkeep_rollback(alloc: Global, handle: &mut Handle) -> u32
     ensures account { Called handle.old.kept.behind handle.new.kept.behind (λ old new.
         new.session.account ≡ no_account old.session.account.asked) }
     ensures rest { Called handle.old.kept.behind handle.new.kept.behind (λ old new.
-        new ≡ record old { session = new.session }) }
+        new ≡ record old { session = new.session; is_told = false }) }
     ensures status { result ≡ status_if_open handle.old.kept.behind }
 {
     let Some(mut connection) = take(handle, alloc) else {
         return CLOSED;
     };
     connection.session.rollback();
+    connection.is_told = false;
     put(handle, connection);
     OK
 }
@@ -79,7 +85,12 @@ pub extern "C" fn sqlkeep_rollback_to(
     ensures shown { Called handle.old.kept.behind handle.new.kept.behind (λ old new. result ≡ OK
         → outcome.new ≡ outcome_shown new.outcome) }
     ensures rest { Called handle.old.kept.behind handle.new.kept.behind (λ old new. result ≡ OK
-        → new ≡ record old { session = new.session; outcome = new.outcome; executed = None }) }
+        → new ≡ record old {
+          session = new.session;
+          outcome = new.outcome;
+          executed = None;
+          is_told = old.session.account.asked;
+        }) }
     ensures others { result ≢ OK → (handle.new.kept.behind ≡ handle.old.kept.behind)
         × (outcome.new ≡ outcome.old) }
     ensures status { IsStatusOfName handle.old.kept.behind name.now result }
@@ -91,6 +102,7 @@ pub extern "C" fn sqlkeep_rollback_to(
         put(handle, connection);
         return NOT_UTF8;
     };
+    connection.is_told = connection.session.explains();
     connection.outcome = connection.session.rollback_to(name);
     connection.executed = None;
     *outcome = outcome_shown(&connection.outcome);

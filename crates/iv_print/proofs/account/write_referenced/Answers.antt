@@ -1,4 +1,4 @@
-use Rattle.std.proofs.Common.{◌++◌, Ok, codes, slice_get, subst}
+use Rattle.std.proofs.Common.{◌++◌, codes, slice_get, subst}
 use Rattle.iv_key.specs.Keys.{key_of}
 use Rattle.iv_print.specs.Writing.{Writes}
 use Rattle.iv_print.specs.AccountLines.{table_name, listed_text}
@@ -15,6 +15,6 @@ returns g c =
     writes_then (g.W.Sink.state c.args.sink.now) first third c.write_listed_columns.result (codes " refers to ") (table ++ values)
     c.in_ok-write_all.ensures
     (writes_then first second third c.write_listed_columns.result table values
-    (subst (λ t. Writes first second (Ok tt) (table_name t)) c.table.ensures c.in_ok-write_table.ensures)
+    c.in_ok-write_table.ensures
     (subst (λ k. Writes second third c.write_listed_columns.result (listed_text (key_of k c.args.values.now))) c.as_slice.ensures
     c.write_listed_columns.ensures))
