@@ -93,11 +93,11 @@ told_by s k o = told_or o.answer (λ refusal. addition_refused_told s.database.r
 -- a row that is found is one of the rows, and passes
 found_in : {A : Type 0} (p : A → Bool) (xs : List A) (x : A) → find p xs ≡ Some x → In x xs × (p x ≡ true)
 found_in p [] x e = cc
-found_in p (y ∷ xs) x e = by (p y) refl e
+found_in p (y ∷ xs) x e = by (found_in p xs x) (p y) refl e
   where
-    by : (b : Bool) → p y ≡ b → (if b then Some y else find p xs) ≡ Some x → In x (y ∷ xs) × (p x ≡ true)
-    by true passes is = let same : x ≡ y = cc in (inl same, ap p same ∙ passes)
-    by false fails is = let rest : In x xs × (p x ≡ true) = found_in p xs x is in (inr rest.0, rest.1)
+    by : (find p xs ≡ Some x → In x xs × (p x ≡ true)) → (b : Bool) → p y ≡ b → (if b then Some y else find p xs) ≡ Some x → In x (y ∷ xs) × (p x ≡ true)
+    by later true passes is = let same : x ≡ y = cc in (inl same, ap p same ∙ passes)
+    by later false fails is = let rest : In x xs × (p x ≡ true) = later is in (inr rest.0, rest.1)
 
 -- the number for which a constraint isn't added
 abbrev number_of : Cause → ℕ
