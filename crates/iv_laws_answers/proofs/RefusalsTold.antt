@@ -1,5 +1,5 @@
 -- A savepoint that isn't there and a constraint that isn't added are told as the laws say.
-use Rattle.std.proofs.Common.{◌≡◌, ◌∙◌, refl, ℕ, ◌+◌, ◌==◌, Bool, true, false, ◌||◌, if◌then◌else◌, List, [], ◌∷◌, ◌++◌, length, find, option_map, is_some, Option, Some, None, Result, Ok, Err, inl, inr, sym, ap, subst, append-nil, arith}
+use Rattle.std.proofs.Common.{◌≡◌, ◌∙◌, refl, ℕ, ◌+◌, ◌==◌, Bool, true, false, ◌||◌, if◌then◌else◌, List, [], ◌∷◌, ◌++◌, length, find, option_map, is_some, Option, Some, None, Result, Ok, Err, inl, inr, sym, ap, append-nil, arith}
 use Rattle.std.proofs.lemmas.Bool.Decides.{nat_tests}
 use Rattle.std.specs.List.{list_any}
 use Rattle.std.specs.Str.{bytes_eq}
@@ -10,16 +10,16 @@ use Rattle.iv_catalogue.specs.Refusals.{refusal_answer}
 use Rattle.iv_catalogue.specs.declared.constraint.Constraint.{Constraint}
 use Rattle.iv_machine.specs.declared.answer.Answer.{Answer}
 use Rattle.iv_machine.specs.declared.answer.Answer.TheVariants.{Done}
-use Rattle.iv_machine.specs.Databases.{fault_at, first, row_at, scan, violates, violations}
+use Rattle.iv_machine.specs.Databases.{fault_at, first, row_at, violates, violations}
 use Rattle.iv_machine.specs.Machine.{NamedSavepoint, Outcome, Savepoint, State, accept, add_constraint_outcome, refuse, refuse_first, savepoint_named, with_schema}
 use Rattle.iv_machine.proofs.Firsts.{first_of_violations}
 use Rattle.iv_machine.proofs.Scans.{scan_from}
 use Rattle.iv_laws_levels.specs.RisingRows.{InOrder}
 use Rattle.iv_laws_levels.proofs.Members.{In, rows_in}
 use Rattle.iv_account.specs.declared.entry.Entry.{Entry}
-use Rattle.iv_account.specs.declared.entry.Entry.TheVariants.{Standing, NotAdded}
-use Rattle.iv_account.specs.Accounts.{equal_row_by, not_added_told, told_or, with_equal_row}
-use Rattle.iv_account.specs.Sessions.{addition_refused_told, addition_told, names_of, savepoint_told, standing_told}
+use Rattle.iv_account.specs.declared.entry.Entry.TheVariants.{NotAdded}
+use Rattle.iv_account.specs.Accounts.{equal_row_by, told_or, with_equal_row}
+use Rattle.iv_account.specs.Sessions.{addition_refused_told, addition_told, names_of, standing_told}
 use Rattle.iv_laws_answers.specs.RefusalLaws.{AcceptedAdditionsAreNotTold, OtherSavepointsAreNotTold, RefusedAdditionsAreTold, StandingSavepointsAreTold, ToldOf}
 
 -- ---- savepoints
