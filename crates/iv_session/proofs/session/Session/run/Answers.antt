@@ -52,7 +52,7 @@ invariant_of-self-in-Rollback g c =
 
 pub invariant_of-self-then-is_writable : goal.invariant_of-self-then-is_writable
 invariant_of-self-then-is_writable g c =
-    performs_reached c.self.inside.state.state (transaction.RollbackTo c.as_str-2.result.now) c.rollback_to.result c.rollback_to.new.self c.self.invariant c.rollback_to.ensures.performs
+    performs_reached c.self.inside.state.state (transaction.RollbackTo c.as_str-then-is_writable.result.now) c.rollback_to.result c.rollback_to.new.self c.self.invariant c.rollback_to.ensures.performs
 
 pub returns-in-Some-clause-told : goal.returns-in-Some-clause-told
 returns-in-Some-clause-told g c =
@@ -73,6 +73,6 @@ returns-then-is_writable-clause-told g c =
     let s : State = c.self.inside.state.state in
     subst (λ (x : Seen). MatchBool (is_memory c.rollback_to.result) (Unit {0})
     (MayTell (may_be_untold (resolution x.state.schema c.args.statement.now)) x.account c.tell_rollback_to.new.account (statement_told x.state c.args.statement.now))) c.self.view_is
-    (rollback_to_is_told s c.args.statement.now c.in-RollbackTo.name.now (is_memory c.rollback_to.result) c.self.inside.account c.tell_rollback_to.new.account
+    (rollback_to_is_told s c.args.statement.now c.in-RollbackTo.name (is_memory c.rollback_to.result) c.self.inside.account c.tell_rollback_to.new.account
     c.in-RollbackTo.is (sym c.is_writable.ensures ∙ c.if-is_writable.true) (sym c.in_default.ensures)
     (subst (λ (n : List ℕ). MayTell true c.self.inside.account c.tell_rollback_to.new.account (savepoint_told s n)) c.as_str.ensures c.tell_rollback_to.ensures))
