@@ -207,6 +207,21 @@ const tests = {
     assert.throws(() => session.execute(texts[5]), Refusal);
     assert.equal(session.account.find((entry) => entry.kind === "violation").rule, "FOREIGN KEY (A, B) REFERENCES Q (A, B) MATCH FULL");
   },
+  savepoints_that_stand() {
+    const session = engine.open({ explain: true });
+    session.execute("START TRANSACTION; SAVEPOINT a; SAVEPOINT b;");
+    assert.throws(() => session.execute("RELEASE SAVEPOINT c;"), { lines: "1 refused 7 UnknownSavepoint\n  savepoints that stand: A, B\n  savepoint C isn't there\n" });
+    assert.deepEqual(session.account, [{ kind: "savepoints", standing: ["A", "B"] }, { kind: "note", text: "savepoint C isn't there" }]);
+    session.execute("RELEASE SAVEPOINT a;");
+    assert.throws(() => session.execute("ROLLBACK TO SAVEPOINT a;"), { cause: 7 });
+    assert.deepEqual(session.account[0], { kind: "savepoints", standing: [] });
+  },
+  a_constraint_that_is_not_added() {
+    const session = engine.open({ explain: true });
+    session.execute("CREATE TABLE t (a INT); INSERT INTO t VALUES (7), (7); COMMIT;");
+    assert.throws(() => session.execute("ALTER TABLE t ADD CONSTRAINT one UNIQUE (a);"), { cause: 20 });
+    assert.deepEqual(session.account, [{ kind: "violation", constraint: "ONE", table: "T", row: 1, values: [7], reason: "key", otherRow: 2, other: [7] }]);
+  },
   names_in_an_account() {
     const session = engine.open({ explain: true });
     assert.throws(() => session.execute("SELECT a FROM nowhere;"), { lines: "1 refused 1 Unknown\n  table NOWHERE isn't there\n" });
