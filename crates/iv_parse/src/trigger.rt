@@ -1,7 +1,6 @@
 //! CREATE TRIGGER.
-ghost use Rattle.std.specs.Prelude.{◌≡◌};
 ghost use Rattle.iv_parse_terms.specs.Reading.{MakesAs, Reads};
-ghost use Rattle.iv_parse.specs.readers.Triggers.{some_items, read_referencing, read_granularity, read_when, read_action_time, read_update_columns, read_event, read_occasion, read_middle, trigger_of, read_trigger};
+ghost use Rattle.iv_parse.specs.readers.Triggers.{some_items, read_referencing, read_granularity, read_when, read_action_time, read_update_columns, read_event, read_occasion, read_middle, read_trigger};
 
 use crate::action::body;
 use iv_lex::TokenKind;
@@ -121,18 +120,17 @@ fn middle(
     Ok((referencing, granularity, when))
 }
 
-fn trigger_of(
-    name: Name,
-    occasion: (ActionTime, TriggerEvent, Items<Name>),
-    table: Name,
-    middle: (Items<Referencing>, Granularity, Option<Condition>),
-    body: Items<TriggerAction>,
-) -> TriggerDefinition
-    ensures { result ≡ trigger_of name occasion table middle body }
+/// CREATE TRIGGER, from the name on.
+#[tactic(auto, unfolding(crate::specs::readers::Triggers::read_trigger))]
+pub fn create_trigger(cursor: &mut Cursor<'_>) -> Result<TriggerDefinition, Stop>
+    ensures { Reads read_trigger cursor.old result cursor.new }
 {
-    let (time, event, columns) = occasion;
-    let (referencing, granularity, when) = middle;
-    TriggerDefinition {
+    let name = cursor.name()?;
+    let (time, event, columns) = occasion(cursor)?;
+    let table = cursor.name()?;
+    let (referencing, granularity, when) = middle(cursor)?;
+    let body = body(cursor)?;
+    Ok(TriggerDefinition {
         name,
         time,
         event,
@@ -142,23 +140,5 @@ fn trigger_of(
         granularity,
         when,
         body,
-    }
-}
-
-/// CREATE TRIGGER, from the name on.
-#[tactic(auto, unfolding(crate::specs::readers::Triggers::read_trigger))]
-pub fn create_trigger(cursor: &mut Cursor<'_>) -> Result<TriggerDefinition, Stop>
-    ensures { Reads read_trigger cursor.old result cursor.new }
-{
-    let name = cursor.name()?;
-    let occasion = occasion(cursor)?;
-    let table = cursor.name()?;
-    let found = middle(cursor)?;
-    match body(cursor) {
-        Ok(body) => Ok(trigger_of(name, occasion, table, found, body)),
-        Err(stop) => {
-            drop(found);
-            Err(stop)
-        }
-    }
+    })
 }

@@ -10,7 +10,7 @@ use Rattle.iv_parse_terms.specs.Types.condition.{Compare, IsNull, IsNotNull, Exi
 use Rattle.iv_lex.specs.declared.kind.TokenKind.TheVariants as kind
 use Rattle.iv_lex.specs.Words.{Word, name, plain}
 use Rattle.iv_syntax.specs.declared.tree.ColumnName.{ColumnName}
-use Rattle.iv_parse_terms.specs.declared.item.Item.TheVariants.{Value, Truth}
+use Rattle.iv_parse_terms.specs.Items.{Value, Truth}
 use Rattle.iv_parse_terms.specs.declared.item.Connective.{Connective}
 use Rattle.iv_parse_terms.specs.declared.item.Connective.TheVariants.{And, Or}
 use Rattle.iv_syntax.specs.Trees.{group, signed, product, sum, enclosed, negated, both, either, exists_where, depth, condition_depth}
@@ -18,10 +18,10 @@ use Rattle.iv_parse_terms.specs.After.{after, after_name, if_some, then_read}
 use Rattle.iv_parse_terms.specs.Expressions.{expression, term, factor, primary, sign_kind, qualifier_spelling, spelling, Formed, EndsPrimary, EndsTerm, EndsExpression}
 use Rattle.iv_parse_terms.specs.readers.Expressions.{after_sign, more_factors, more_terms, read_factor, read_term}
 use Rattle.iv_parse_terms.specs.Conditions.{comparison_kind, AliasSpelled, RangeSpelled, exists_spelling, Spelled, condition, conjunction, negation, test, ConditionFormed, EndsConjunction, EndsCondition, EndsFrom}
-use Rattle.iv_parse_terms.specs.readers.Conditions.{FoundItem, as_item, condition_fits, on_value, close_item, predicate_from, comparison_from, alias_from, range_from, with_condition, where_from, from_by, exists_over, close_exists, exists_by, lead_term_by, lead_expression_by, negate, connective_kind, connection, connection_from, more_by, read_lead, lead_factor, read_test, read_negation, read_conjunction, read_item}
+use Rattle.iv_parse_terms.specs.readers.Conditions.{FoundItem, as_item, condition_fits, on_value, close_item, predicate_from, comparison_from, alias_from, range_from, with_condition, where_from, from_by, exists_over, close_exists, exists_by, value_test, negate, connective_kind, connection, connection_from, more_by, read_lead, lead_factor, read_test, read_negation, read_conjunction, read_item}
 use Rattle.iv_parse_terms.proofs.Complete.{fits_ok, stop_factors, stop_terms, step_factor, step_term, complete, expression_whole, column_read, column_first, sign_ends}
 use Rattle.iv_parse_terms.proofs.Parts.{sign_found}
-use Rattle.iv_parse_terms.proofs.ConditionSteps.{lead_simple, factor_signed, factor_lead, negation_not, negation_plain, conjunction_step, item_step}
+use Rattle.iv_parse_terms.proofs.ConditionSteps.{lead_simple, staged, test_is, factor_signed, factor_lead, negation_not, negation_plain, conjunction_step, item_step}
 
 pub condition_fits_ok : (d : ℕ) (c : Condition) (ws : List Word) → condition_depth c ≤ d → condition_fits d c ws ≡ Some (Truth c, ws)
 condition_fits_ok d c ws h = rw (le-leb (condition_depth c) d h) refl
@@ -44,10 +44,10 @@ no_not (product a b) rest = rw (append_assoc (spelling a) (plain kind.Asterisk �
 no_not (sum s a b) rest = rw (append_assoc (spelling a) (plain (sign_kind s) ∷ spelling b) rest) (no_not a (plain (sign_kind s) ∷ (spelling b ++ rest)))
 
 abbrev lead_term : ℕ → List Word → FoundItem
-lead_term d = lead_term_by d (lead_factor d)
+lead_term d ws = then_read (lead_factor d ws) (on_value (λ e rest. as_item (more_factors d (read_factor d) d e rest)))
 
 abbrev lead_expression : ℕ → List Word → FoundItem
-lead_expression d = lead_expression_by d (lead_term d)
+lead_expression d ws = then_read (lead_term d ws) (on_value (λ e rest. as_item (more_terms d (read_term d) d e rest)))
 
 -- an expression that comes first in a test is read as a value
 pub record Lead (e : Expression) : Type 0 where
@@ -85,8 +85,7 @@ lead_whole e l f d h rest a =
 
 -- a test that begins with a value goes on with it
 pub test_of_value : (d : ℕ) (e : Expression) (ws rest : List Word) → lead_expression d ws ≡ Some (Value e, rest) → read_test d ws ≡ predicate_from d e rest
-unfolding read_test
-test_of_value d e ws rest h = ap (λ o. then_read o (on_value (predicate_from d))) h
+test_of_value d e ws rest h = test_is d ws ∙ (staged d (lead_factor d ws) ∙ ap (λ o. then_read o (on_value (predicate_from d))) h)
 
 pub value_stops : (k : Connective) (d : ℕ) (F : List Word → FoundItem) (n : ℕ) (e : Expression) (ws : List Word) → more_by k d F n (Value e) ws ≡ Some (Value e, ws)
 value_stops k d F zero e ws = refl
@@ -288,8 +287,7 @@ not_null_read a f front s d h rest ends =
 pub test_of_truth : (d : ℕ) (c : Condition) (ws rest : List Word) → after_sign ws ≡ None → read_lead d ws ≡ Some (Truth c, rest) → read_test d ws ≡ Some (Truth c, rest)
 unfolding read_test
 test_of_truth d c ws rest s h =
-    ap (λ o. then_read (then_read (then_read o (on_value (λ e more. as_item (more_factors d (read_factor d) d e more)))) (on_value (λ e more. as_item (more_terms d (read_term d) d e more)))) (on_value (predicate_from d)))
-    (sym (factor_lead d ws (sym s)) ∙ h)
+    ap (λ o. then_read o (on_value (value_test d))) (sym (factor_lead d ws (sym s)) ∙ h)
 
 pub condition_item : (c : Condition) → ConditionComplete c → ConditionFormed condition c → (front : List Word) → Spelled c front → (d : ℕ) → condition_depth c ≤ d → (rest : List Word)
     → EndsCondition rest → read_item d (front ++ rest) ≡ Some (Truth c, rest)

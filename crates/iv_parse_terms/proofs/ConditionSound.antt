@@ -8,8 +8,7 @@ use Rattle.iv_parse_terms.specs.Types.comparison
 use Rattle.iv_parse_terms.specs.Types.condition.{Compare, IsNull, IsNotNull, Exists}
 use Rattle.iv_lex.specs.declared.kind.TokenKind.TheVariants as kind
 use Rattle.iv_lex.specs.Words.{Word, name, plain}
-use Rattle.iv_parse_terms.specs.declared.item.Item.{Item}
-use Rattle.iv_parse_terms.specs.declared.item.Item.TheVariants.{Value, Truth}
+use Rattle.iv_parse_terms.specs.Items.{Item, Value, Truth}
 use Rattle.iv_parse_terms.specs.declared.item.Connective.{Connective}
 use Rattle.iv_parse_terms.specs.declared.item.Connective.TheVariants.{And, Or}
 use Rattle.iv_syntax.specs.Trees.{group, enclosed, negated, both, either, exists_where, condition_depth}
@@ -18,7 +17,7 @@ use Rattle.iv_parse_terms.specs.ItemDepth.{where_depth}
 use Rattle.iv_parse_terms.specs.Expressions.{Rule, expression, term, factor, primary, spelling, Formed}
 use Rattle.iv_parse_terms.specs.readers.Expressions.{FoundExpression, fits, after_sign, simple, more_factors, more_terms, read_factor, read_term, read_expression}
 use Rattle.iv_parse_terms.specs.Conditions.{comparison_kind, AliasSpelled, exists_spelling, Spelled, ConditionRule, condition, conjunction, negation, test, ConditionFormed, IsFrom}
-use Rattle.iv_parse_terms.specs.readers.Conditions.{FoundItem, as_item, condition_fits, on_value, enclose, close_item, after_comparison, null_test, comparison_from, predicate_from, alias_from, range_from, with_condition, where_from, from_by, exists_over, after_select, close_exists, exists_by, lead_by, lead_factor_by, lead_term_by, lead_expression_by, test_by, negate, negation_by, connective_kind, connection, connection_from, more_by, chain_by, item_over, read_lead, lead_factor, read_test, read_negation, read_conjunction, read_item}
+use Rattle.iv_parse_terms.specs.readers.Conditions.{FoundItem, as_item, condition_fits, on_value, enclose, close_item, after_comparison, null_test, comparison_from, predicate_from, alias_from, range_from, with_condition, where_from, from_by, exists_over, after_select, close_exists, exists_by, lead_by, lead_factor_by, value_test, test_by, negate, negation_by, connective_kind, connection, connection_from, more_by, chain_by, item_over, read_lead, lead_factor, read_test, read_negation, read_conjunction, read_item}
 use Rattle.iv_parse_terms.proofs.Parts.{if_some_has, after_is, after_name_is}
 use Rattle.iv_parse_terms.proofs.Sound.{Read, Good, fits_good, factor_primary, term_factor, expression_term, simple_good, more_factors_good, more_terms_good, factor_sound, term_sound, expression_sound}
 
@@ -112,24 +111,12 @@ wider_truth r s t d ws None f h = tt
 wider_truth r s t d ws (Some (Value e, rest)) f h = h
 wider_truth r s t d ws (Some (Truth c, rest)) f h = record { front = h.front; formed = f c h.formed; spelled = h.spelled; shallow = h.shallow; whole = h.whole }
 
--- the first factor, term and expression of a test
+-- the first factor of a test
 pub lead_factor_sound : (d : ℕ) (L : List Word → FoundItem) → ItemSound primary test d L → ItemSound factor test d (lead_factor_by d L)
 lead_factor_sound d L h ws =
     if_some_has (GoodItem factor test d ws) (after_sign ws) (λ p. as_item (read_factor d ws)) (L ws)
     (λ p e. as_item_good factor test d ws (read_factor d ws) (factor_sound d ws))
     (λ _. wider_value primary factor test d ws (L ws) factor_primary (h ws))
-
-pub lead_term_sound : (d : ℕ) (L : List Word → FoundItem) → ItemSound factor test d L → ItemSound term test d (lead_term_by d L)
-lead_term_sound d L h ws = item_then_good factor term test test d d ws ws (L ws) (on_value (λ e rest. as_item (more_factors d (read_factor d) d e rest))) (h ws)
-    (λ i rest g. on_value_good factor term test d ws (λ e more. as_item (more_factors d (read_factor d) d e more)) i rest g
-    (λ e r. as_item_good term test d ws (more_factors d (read_factor d) d e rest)
-    (more_factors_good d (read_factor d) (factor_sound d) d ws e rest (record { formed = term_factor e r.formed; shallow = r.shallow; front = r.front }))))
-
-pub lead_expression_sound : (d : ℕ) (L : List Word → FoundItem) → ItemSound term test d L → ItemSound expression test d (lead_expression_by d L)
-lead_expression_sound d L h ws = item_then_good term expression test test d d ws ws (L ws) (on_value (λ e rest. as_item (more_terms d (read_term d) d e rest))) (h ws)
-    (λ i rest g. on_value_good term expression test d ws (λ e more. as_item (more_terms d (read_term d) d e more)) i rest g
-    (λ e r. as_item_good expression test d ws (more_terms d (read_term d) d e rest)
-    (more_terms_good d (read_term d) (term_sound d) d ws e rest (record { formed = expression_term e r.formed; shallow = r.shallow; front = r.front }))))
 
 pub after_comparison_is : (ws : List Word) (p : Comparison × List Word) → after_comparison ws ≡ Some p → ws ≡ plain (comparison_kind p.0) ∷ p.1
 after_comparison_is (plain kind.Equals ∷ ws) p h = ap (λ (q : Comparison × List Word). plain (comparison_kind q.0) ∷ q.1) (same_Some (comparison.Equal, ws) p h)
@@ -170,9 +157,18 @@ tested_good d ws a rest r =
     (λ js e. null_test_good d ws a rest js r (after_is kind.Is rest js e))
     (λ _. r))
 
-pub test_sound : (d : ℕ) (L : List Word → FoundItem) → ItemSound expression test d L → ItemSound expression test d (test_by d L)
-test_sound d L h ws = item_then_good expression expression test test d d ws ws (L ws) (on_value (predicate_from d)) (h ws)
-    (λ i rest g. on_value_good expression expression test d ws (predicate_from d) i rest g (λ e r. tested_good d ws e rest r))
+value_good : (d : ℕ) (ws : List Word) (e : Expression) (rest : List Word) → Read factor d ws e rest → GoodItem expression test d ws (value_test d e rest)
+unfolding value_test
+value_good d ws e rest r =
+    found_then_good term expression test d d ws ws (more_factors d (read_factor d) d e rest) (λ a more. then_read (more_terms d (read_term d) d a more) (predicate_from d))
+    (more_factors_good d (read_factor d) (factor_sound d) d ws e rest (record { formed = term_factor e r.formed; shallow = r.shallow; front = r.front }))
+    (λ a more q. found_then_good expression expression test d d ws ws (more_terms d (read_term d) d a more) (predicate_from d)
+    (more_terms_good d (read_term d) (term_sound d) d ws a more (record { formed = expression_term a q.formed; shallow = q.shallow; front = q.front }))
+    (λ b left s. tested_good d ws b left s))
+
+pub test_sound : (d : ℕ) (L : List Word → FoundItem) → ItemSound factor test d L → ItemSound expression test d (test_by d L)
+test_sound d L h ws = item_then_good factor expression test test d d ws ws (L ws) (on_value (value_test d)) (h ws)
+    (λ i rest g. on_value_good factor expression test d ws (value_test d) i rest g (λ e r. value_good d ws e rest r))
 
 pub negate_good : (d : ℕ) (all ws : List Word) (i : Item) (rest : List Word) → all ≡ plain kind.Not ∷ ws → GoodItem expression test d ws (Some (i, rest)) → GoodItem expression negation d all (negate d i rest)
 negate_good d all ws (Value e) rest a h = tt
@@ -234,7 +230,7 @@ chain_sound k d F h ws = item_then_good expression expression (chain_rule k) (ch
 
 pub item_over_sound : (d : ℕ) (L : List Word → FoundItem) → ItemSound primary test d L → ItemSound expression condition d (item_over d L)
 item_over_sound d L h =
-    chain_sound Or d _ (chain_sound And d _ (negation_sound d _ (test_sound d _ (lead_expression_sound d _ (lead_term_sound d _ (lead_factor_sound d L h))))))
+    chain_sound Or d _ (chain_sound And d _ (negation_sound d _ (test_sound d _ (lead_factor_sound d L h))))
 
 -- ranges
 pub record ReadRange (ws : List Word) (r : RangeName) (rest : List Word) : Type 0 where

@@ -1,11 +1,12 @@
 -- Words that are the same up to the furthest one, and with it, are read alike.
-use Rattle.std.specs.Prelude.{◌≡◌, ℕ, zero, suc, ◌+◌, ◌<◌, ◌≤◌, max, Bool, true, false, if◌then◌else◌, Option, Some, None, is_some, option_map, option_and_then, List, [], ◌∷◌, length, take, drop, slice_get, refl}
+use Rattle.std.specs.Prelude.{◌≡◌, ℕ, zero, suc, ◌+◌, ◌<◌, ◌≤◌, max, Bool, true, false, if◌then◌else◌, Option, Some, None, IfSome, is_some, option_map, option_and_then, Result, Ok, Err, List, [], ◌∷◌, length, take, drop, slice_get, refl}
 use Rattle.std.proofs.Common.{sym, ◌∙◌, ap, subst, arith}
+use Rattle.std.proofs.lemmas.Bool.{false≢true}
+use Rattle.std.specs.Result.{IsErr}
 use Rattle.iv_lex.specs.declared.kind.TokenKind.{TokenKind}
-use Rattle.iv_lex.specs.declared.kind.TokenKind.TheVariants as kind
 use Rattle.iv_lex.specs.Words.{Word, name, number, quoted, plain}
-use Rattle.iv_parse_terms.specs.After.{after, after_name, after_number, after_quoted, is_word, if_some}
-use Rattle.iv_parse_terms.specs.Reading.{At, Other, Like, ahead, word_is, name_in, number_in, quoted_in, looked, passed, after_both, Peeks, Tries, TriesPart}
+use Rattle.iv_parse_terms.specs.After.{after, after_name, after_number, after_quoted, if_some}
+use Rattle.iv_parse_terms.specs.Reading.{At, Other, Like, word_is, name_in, number_in, quoted_in, looked, passed, after_both, FoundUnless, Peeks, Tries, TriesPart}
 
 abbrev first_or : Word → List Word → Word
 first_or d [] = d
@@ -189,6 +190,22 @@ pub one_missed_by : {A : Type 0} (rule : List Word → Option (A × List Word)) 
 one_missed_by rule f is c l n looks found stays =
     subst (λ x. TriesPart rule c None x) (sym (stays ∙ looks))
     (one_missed rule f is c (found ∙ ap (λ (x : At). option_and_then f (slice_get x.words x.place)) looks))
+
+-- what was found is settled: past the word, or not
+pub settled_by : {A : Type 0} (rule : List Word → Option (A × List Word)) (f : Word → Option A) → ((ws : List Word) → rule ws ≡ one f ws)
+    → (c l n : At) (o : Option A) → l ≡ looked c → o ≡ option_and_then f (slice_get l.words l.place) → n ≡ if_some o (λ _. passed l) l → TriesPart rule c o n
+settled_by rule f is c l n None looks found moves = one_missed_by rule f is c l n looks found moves
+settled_by rule f is c l n (Some a) looks found moves = one_found_by rule f is c l n a looks found moves
+
+pub settles_within : {A : Type 0} (f : Word → Option A) (ws : List Word) (p most : ℕ) (o : Option A) → o ≡ option_and_then f (slice_get ws p) → length ws ≤ most
+    → IfSome o (λ _. p < most)
+settles_within f ws p most None h few = tt
+settles_within f ws p most (Some a) h few = let i = within_some f a ws p h in omega (arith, i, few)
+
+-- nothing is said where memory was refused
+pub refused : {A E : Type 0} (r : Result (Option A) E) (found : Option (A × List Word)) (ws rest : List Word) → IsErr r → FoundUnless found ws r rest
+refused (Ok o) found ws rest h = absurd (false≢true h)
+refused (Err e) found ws rest h = tt
 
 by_both : (c a b : At) (k j : TokenKind) → Tries (after k) c true a → Tries (after j) a false b
     → Tries (after_both k j) c false (record { words = b.words; place = c.place; furthest = b.furthest })

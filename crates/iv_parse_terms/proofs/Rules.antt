@@ -1,12 +1,12 @@
 -- How what a rule reads follows from what its parts read.
-use Rattle.std.specs.Prelude.{◌≡◌, true, false, Option, Some, None, List, Result, Ok, Err, refl}
+use Rattle.std.specs.Prelude.{◌≡◌, true, false, Option, Some, None, List, Result, Ok, Err}
 use Rattle.std.proofs.Common.{sym, ap, subst}
 use Rattle.std.specs.Result.{IsErr, IsErrAnd}
 use Rattle.iv_lex.specs.Words.{Word}
 use Rattle.iv_parse_terms.specs.After.{if_some, then_read}
 use Rattle.iv_parse_terms.specs.declared.stop.Stop.{Stop}
 use Rattle.iv_parse_terms.specs.declared.stop.Stop.TheVariants.{NoMatch, TooDeep, NoMemory}
-use Rattle.iv_parse_terms.specs.Reading.{At, Other, Like, ahead, GivesAs, ReadsAs, Reads, MakesAs, Expects, FoundAll, Tries, TriesPart}
+use Rattle.iv_parse_terms.specs.Reading.{At, ahead, GivesAs, ReadsAs, MakesAs, Expects, Tries, TriesPart}
 
 -- the rule in other words
 pub by_rule : {A B : Type 0} (t : B → A) (f g : List Word → Option (A × List Word)) (c n : At) (r : Result B Stop)

@@ -7,7 +7,7 @@ use Rattle.iv_parse_terms.specs.Types.{Sign, Expression}
 use Rattle.iv_parse_terms.specs.Types.expression.{Number, Text, Null}
 use Rattle.iv_syntax.specs.Trees.{product, sum}
 use Rattle.iv_parse_terms.specs.After.{after, after_number, after_quoted, same, if_some, then_read}
-use Rattle.iv_parse_terms.specs.readers.Expressions.{FoundExpression, fits, after_sign, null_or_column, simple, close_group, expression_over, more_factors, more_terms, read_primary, read_expression}
+use Rattle.iv_parse_terms.specs.readers.Expressions.{FoundExpression, fits, after_sign, null_or_column, simple, close_group, more_factors, more_terms, read_primary, read_expression}
 
 pub primary_zero : (d : ℕ) (ws : List Word) → d ≡ 0 → read_primary d ws ≡ None
 unfolding read_primary

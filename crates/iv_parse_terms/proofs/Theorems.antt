@@ -5,7 +5,7 @@ use Rattle.std.proofs.lemmas.Option.{none-some, same_Some}
 use Rattle.iv_lex.specs.Words.{Word}
 use Rattle.iv_parse_terms.specs.Types.{Expression, RangeName, Condition}
 use Rattle.iv_syntax.specs.declared.limits.TheConstants.{DEEPEST_TREE}
-use Rattle.iv_parse_terms.specs.declared.item.Item.TheVariants.{Value, Truth}
+use Rattle.iv_parse_terms.specs.Items.{Value, Truth}
 use Rattle.iv_parse_terms.specs.After.{then_read}
 use Rattle.iv_parse_terms.specs.ItemDepth.{where_depth}
 use Rattle.iv_parse_terms.specs.Expressions.{IsExpression, EndsExpression, spelling, expression}

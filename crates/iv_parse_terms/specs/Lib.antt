@@ -6,7 +6,7 @@ pub mod Expressions
 pub mod Seen
 pub mod Conditions
 pub mod ItemDepth
+pub mod Items
 pub mod SeenItem
-pub mod SeenFrom
 pub mod Laws
 pub mod readers

@@ -1,7 +1,6 @@
 -- What is read at a place among words, whatever follows the words that were looked at.
-use Rattle.std.specs.Prelude.{◌≡◌, ◌≤◌, ℕ, suc, ◌+◌, max, Bool, true, false, Option, Some, None, is_some, List, [], ◌∷◌, take, drop, Result, Ok, Err}
+use Rattle.std.specs.Prelude.{◌≡◌, ◌≤◌, ℕ, suc, ◌+◌, max, Bool, true, false, Option, Some, None, is_some, List, take, drop, Result, Ok, Err}
 use Rattle.iv_lex.specs.declared.kind.TokenKind.{TokenKind}
-use Rattle.iv_lex.specs.declared.kind.TokenKind.TheVariants as kind
 use Rattle.iv_lex.specs.Words.{Word, name, number, quoted, plain}
 use Rattle.iv_parse_terms.specs.After.{is_word, after, if_some}
 use Rattle.iv_parse_terms.specs.declared.stop.Stop.{Stop}

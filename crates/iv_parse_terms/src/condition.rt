@@ -3,16 +3,13 @@ ghost use Rattle.std.specs.Prelude.{◌≤◌, ◌-◌, ◌<◌};
 ghost use Rattle.iv_parse_terms.specs.readers.Conditions.{as_item, after_select as select_at, exists_by, more_by, read_lead, lead_factor as lead_factor_of, read_test, read_negation, read_operand, read_chain, read_item, read_from as from, read_condition as read};
 ghost use Rattle.iv_parse_terms.specs.readers.Expressions.{read_primary, signed_from, simple as simple_at};
 ghost use Rattle.iv_parse_terms.specs.Reading.{Expects, Reads, ReadsAs};
-ghost use Rattle.iv_parse_terms.specs.SeenItem.{item_in};
-ghost use Rattle.iv_parse_terms.specs.SeenFrom.{from_in};
+ghost use Rattle.iv_parse_terms.specs.SeenItem.{from_in, item_in};
 
 use crate::cursor::Cursor;
 use crate::expression::{signed_factor, simple};
-use crate::from::{close_exists, range, with_where, without_where};
-use crate::from_part::FromPart;
-use crate::item::Connective;
-use crate::item_part::ItemPart;
-use crate::predicate::{accept_connective, close_item, go_on, join, negate, truth, value_item};
+use crate::from::{FromPart, close_exists, range, with_where};
+use crate::item::{Connective, Item};
+use crate::predicate::{accept_connective, close_item, go_on, join, negate, truth};
 use crate::stop::Stop;
 use iv_lex::TokenKind;
 use iv_syntax::{Condition, DEEPEST_TREE, RangeName, Sign};
@@ -27,27 +24,27 @@ fn select(cursor: &mut Cursor<'_>) -> Result<(), Stop>
 }
 
 // A factor, from what follows its sign on, as an item.
-fn value_signed(cursor: &mut Cursor<'_>, limit: u8, sign: Sign) -> Result<ItemPart, Stop>
+fn value_signed(cursor: &mut Cursor<'_>, limit: u8, sign: Sign) -> Result<Item, Stop>
     requires { limit ≤ DEEPEST_TREE }
     ensures { ReadsAs item_in (λ ws. as_item (signed_from limit (read_primary limit) sign ws))
         cursor.old result cursor.new }
 {
     let value = signed_factor(cursor, limit, sign)?;
-    Ok(value_item(value))
+    Ok(Item::Value(value))
 }
 
 // A number, a text, NULL or a column, as an item.
-fn value_simple(cursor: &mut Cursor<'_>) -> Result<ItemPart, Stop>
+fn value_simple(cursor: &mut Cursor<'_>) -> Result<Item, Stop>
     ensures { ReadsAs item_in (λ ws. as_item (simple_at ws)) cursor.old result
         cursor.new }
 {
     let value = simple(cursor)?;
-    Ok(value_item(value))
+    Ok(Item::Value(value))
 }
 
 // What comes first in a test.
 #[cycle(condition)]
-fn lead(cursor: &mut Cursor<'_>, limit: u8) -> Result<ItemPart, Stop>
+fn lead(cursor: &mut Cursor<'_>, limit: u8) -> Result<Item, Stop>
     requires { limit ≤ DEEPEST_TREE }
     ensures { ReadsAs item_in (read_lead limit) cursor.old result cursor.new }
 {
@@ -66,7 +63,7 @@ fn lead(cursor: &mut Cursor<'_>, limit: u8) -> Result<ItemPart, Stop>
 
 // EXISTS, from the parenthesis on.
 #[cycle(condition)]
-fn exists(cursor: &mut Cursor<'_>, limit: u8) -> Result<ItemPart, Stop>
+fn exists(cursor: &mut Cursor<'_>, limit: u8) -> Result<Item, Stop>
     requires low { limit ≤ DEEPEST_TREE }
     requires some { 0 < limit }
     ensures { ReadsAs item_in (exists_by limit (read_item (limit - 1))) cursor.old
@@ -89,12 +86,12 @@ fn from_range(cursor: &mut Cursor<'_>, limit: u8) -> Result<FromPart, Stop>
         let found = item(&mut *cursor, limit)?;
         return with_where(range, found);
     }
-    Ok(without_where(range))
+    Ok((range, None))
 }
 
 // The factor that comes first in a test, or a condition.
 #[cycle(condition)]
-fn lead_factor(cursor: &mut Cursor<'_>, limit: u8) -> Result<ItemPart, Stop>
+fn lead_factor(cursor: &mut Cursor<'_>, limit: u8) -> Result<Item, Stop>
     requires { limit ≤ DEEPEST_TREE }
     ensures { ReadsAs item_in (lead_factor_of limit) cursor.old result cursor.new }
 {
@@ -105,7 +102,7 @@ fn lead_factor(cursor: &mut Cursor<'_>, limit: u8) -> Result<ItemPart, Stop>
 }
 
 #[cycle(condition)]
-fn test(cursor: &mut Cursor<'_>, limit: u8) -> Result<ItemPart, Stop>
+fn test(cursor: &mut Cursor<'_>, limit: u8) -> Result<Item, Stop>
     requires { limit ≤ DEEPEST_TREE }
     ensures { ReadsAs item_in (read_test limit) cursor.old result cursor.new }
 {
@@ -114,7 +111,7 @@ fn test(cursor: &mut Cursor<'_>, limit: u8) -> Result<ItemPart, Stop>
 }
 
 #[cycle(condition)]
-fn negation(cursor: &mut Cursor<'_>, limit: u8) -> Result<ItemPart, Stop>
+fn negation(cursor: &mut Cursor<'_>, limit: u8) -> Result<Item, Stop>
     requires { limit ≤ DEEPEST_TREE }
     ensures { ReadsAs item_in (read_negation limit) cursor.old result cursor.new }
 {
@@ -127,7 +124,7 @@ fn negation(cursor: &mut Cursor<'_>, limit: u8) -> Result<ItemPart, Stop>
 
 // What AND or OR stands between: negations, or conjunctions.
 #[cycle(condition)]
-fn operand(cursor: &mut Cursor<'_>, limit: u8, connective: Connective) -> Result<ItemPart, Stop>
+fn operand(cursor: &mut Cursor<'_>, limit: u8, connective: Connective) -> Result<Item, Stop>
     requires { limit ≤ DEEPEST_TREE }
     ensures { ReadsAs item_in (read_operand connective limit) cursor.old result
         cursor.new }
@@ -145,12 +142,12 @@ fn operands(
     limit: u8,
     most: u8,
     connective: Connective,
-    left: ItemPart,
-) -> Result<ItemPart, Stop>
+    left: Item,
+) -> Result<Item, Stop>
     requires low { limit ≤ DEEPEST_TREE }
     requires few { most ≤ DEEPEST_TREE }
     ensures { ReadsAs item_in (more_by connective limit (read_operand connective limit) most
-        left.item) cursor.old result cursor.new }
+        (item_in left)) cursor.old result cursor.new }
 {
     if !accept_connective(&mut *cursor, connective, &left) {
         return Ok(left);
@@ -166,7 +163,7 @@ fn operands(
 
 // Operands with AND or with OR between them.
 #[cycle(condition)]
-fn chain(cursor: &mut Cursor<'_>, limit: u8, connective: Connective) -> Result<ItemPart, Stop>
+fn chain(cursor: &mut Cursor<'_>, limit: u8, connective: Connective) -> Result<Item, Stop>
     requires { limit ≤ DEEPEST_TREE }
     ensures { ReadsAs item_in (read_chain connective limit) cursor.old result
         cursor.new }
@@ -177,7 +174,7 @@ fn chain(cursor: &mut Cursor<'_>, limit: u8, connective: Connective) -> Result<I
 
 // A value or a condition.
 #[cycle(condition)]
-fn item(cursor: &mut Cursor<'_>, limit: u8) -> Result<ItemPart, Stop>
+fn item(cursor: &mut Cursor<'_>, limit: u8) -> Result<Item, Stop>
     requires { limit ≤ DEEPEST_TREE }
     ensures { ReadsAs item_in (read_item limit) cursor.old result cursor.new }
 {
@@ -197,6 +194,9 @@ pub fn read_condition(cursor: &mut Cursor<'_>) -> Result<Condition, Stop>
 pub fn read_from(cursor: &mut Cursor<'_>) -> Result<(RangeName, Option<Condition>), Stop>
     ensures { Reads (from DEEPEST_TREE) cursor.old result cursor.new }
 {
-    let (range, condition, _) = from_range(cursor, DEEPEST_TREE)?.into_parts();
-    Ok((range, condition))
+    let (range, condition) = from_range(cursor, DEEPEST_TREE)?;
+    match condition {
+        Some(part) => Ok((range, Some(part.into_parts().0))),
+        None => Ok((range, None)),
+    }
 }

@@ -1,7 +1,7 @@
 //! A place among the words of a text, from which they are read.
-ghost use Rattle.std.specs.Prelude.{◌≡◌, ◌<◌, ◌≤◌, ℕ, IfOk, length, option_and_then, slice_get, true};
+ghost use Rattle.std.specs.Prelude.{◌≡◌, ◌<◌, ◌≤◌, ℕ, IfOk, IfSome, length, option_and_then, option_copied, slice_get, true};
 ghost use Rattle.iv_lex.specs.Words.{words};
-ghost use Rattle.iv_parse_terms.specs.After.{after, after_name, after_number, after_quoted, is_plain};
+ghost use Rattle.iv_parse_terms.specs.After.{after, after_name, after_number, after_quoted, if_some, is_plain};
 ghost use Rattle.iv_parse_terms.specs.readers.Expressions.{after_sign};
 ghost use Rattle.iv_parse_terms.specs.readers.Conditions.{after_comparison};
 ghost use Rattle.iv_parse_terms.specs.Reading.{Expects, Follows, Peeks, Reads, Tries, TriesPart, TriesUnlessMemory, after_both, looked, name_in, number_in, passed, quoted_in, word_is};
@@ -82,7 +82,7 @@ impl<'a> Cursor<'a> {
     {
         if self.place > self.furthest {
             self.furthest = self.place;
-            self.wanted = Wanted::new();
+            self.wanted.clear();
         }
     }
 
@@ -101,6 +101,20 @@ impl<'a> Cursor<'a> {
         ensures { self.new ≡ passed self.old }
     {
         self.place += 1;
+    }
+
+    // Goes past the word at the place, where something was found there; else notes what wasn't found.
+    fn settle<T>(&mut self, found: Option<T>, kind: TokenKind) -> Option<T>
+        requires { IfSome found (λ _. self.old.place < usize.MAX) }
+        ensures cursor { self.new ≡ if_some found (λ _. passed self.old) self.old }
+        ensures found { result ≡ found }
+    {
+        if found.is_some() {
+            self.pass();
+        } else {
+            self.miss(kind);
+        }
+        found
     }
 
     /// Goes back to an earlier place.
@@ -169,6 +183,7 @@ impl<'a> Cursor<'a> {
     }
 
     /// Goes past this word, where it is the next one.
+    #[inline(always)]
     pub fn accept(&mut self, kind: TokenKind) -> bool
         requires { is_plain kind ≡ true }
         ensures { Tries (after kind) self.old result self.new }
@@ -227,17 +242,8 @@ impl<'a> Cursor<'a> {
         ensures { TriesUnlessMemory after_name self.old result self.new }
     {
         self.look();
-        match self.name_here() {
-            Ok(Some(name)) => {
-                self.pass();
-                Ok(Some(name))
-            }
-            Ok(None) => {
-                self.miss(TokenKind::Name);
-                Ok(None)
-            }
-            Err(refused) => Err(refused),
-        }
+        let found = self.name_here()?;
+        Ok(self.settle(found, TokenKind::Name))
     }
 
     /// Goes past a name, which has to be next.
@@ -252,17 +258,8 @@ impl<'a> Cursor<'a> {
         ensures { TriesUnlessMemory after_quoted self.old result self.new }
     {
         self.look();
-        match self.quoted_here() {
-            Ok(Some(quoted)) => {
-                self.pass();
-                Ok(Some(quoted))
-            }
-            Ok(None) => {
-                self.miss(TokenKind::Quoted);
-                Ok(None)
-            }
-            Err(refused) => Err(refused),
-        }
+        let found = self.quoted_here()?;
+        Ok(self.settle(found, TokenKind::Quoted))
     }
 
     /// Goes past a text, which has to be next.
@@ -277,12 +274,8 @@ impl<'a> Cursor<'a> {
         ensures { TriesPart after_number self.old result self.new }
     {
         self.look();
-        let Some(number) = self.number_here() else {
-            self.miss(TokenKind::Number(0));
-            return None;
-        };
-        self.pass();
-        Some(number)
+        let found = self.number_here();
+        self.settle(found, TokenKind::Number(0))
     }
 
     /// Goes past a number, which has to be next.
@@ -331,9 +324,9 @@ impl<'a> Cursor<'a> {
     }
 }
 
-fn token_at(tokens: &[Token], place: usize) -> Option<Token>
-    ensures token { result ≡ slice_get tokens.now place }
+fn token_at(tokens: &[Token], place: usize) -> Option<&Token>
+    ensures token { option_copied result ≡ slice_get tokens.now place }
     ensures few { length tokens.now ≤ usize.MAX }
 {
-    tokens.get(place).copied()
+    tokens.get(place)
 }

@@ -1,5 +1,5 @@
 //! Expressions, read from words.
-ghost use Rattle.std.specs.Prelude.{◌≡◌, ◌≤◌};
+ghost use Rattle.std.specs.Prelude.{◌≡◌, ◌+◌, ◌≤◌};
 ghost use Rattle.iv_syntax.specs.Trees.{group, signed, depth as depth_of};
 ghost use Rattle.iv_parse_terms.specs.readers.Expressions.{column_tree, joined, null_or_column, simple as simple_at, close_group, fits, signed_from, more_factors, more_terms, read_primary, read_factor, read_term, read_expression as read};
 ghost use Rattle.iv_parse_terms.specs.Reading.{MakesAs, Reads, ReadsAs};
@@ -13,20 +13,28 @@ use iv_lex::TokenKind;
 use iv_syntax::{ColumnName, DEEPEST_TREE, Expression, Name, Sign};
 use std::alloc::Global;
 
+// The expression, where it is not too deep; `below` is the depth of its deepest part.
+fn fit(limit: u8, tree: Expression, below: u8) -> Result<ExpressionPart, Stop>
+    requires { depth_of tree ≡ 1 + below }
+    ensures { MakesAs tree_in (fits limit tree) result }
+{
+    if below >= limit {
+        drop(tree);
+        return Err(Stop::TooDeep);
+    }
+    Ok(ExpressionPart {
+        tree,
+        depth: below + 1,
+    })
+}
+
 /// The expression in parentheses, where it is not too deep.
 pub fn make_group(alloc: Global, limit: u8, inside: ExpressionPart) -> Result<ExpressionPart, Stop>
     ensures { MakesAs tree_in (fits limit (group inside.tree)) result }
 {
-    if inside.depth >= limit {
-        drop(inside);
-        return Err(Stop::TooDeep);
-    }
     let (tree, depth) = inside.into_parts();
     let tree = group_of(alloc, tree)?;
-    Ok(ExpressionPart {
-        tree,
-        depth: depth + 1,
-    })
+    fit(limit, tree, depth)
 }
 
 fn make_signed(
@@ -37,16 +45,9 @@ fn make_signed(
 ) -> Result<ExpressionPart, Stop>
     ensures { MakesAs tree_in (fits limit (signed sign operand.tree)) result }
 {
-    if operand.depth >= limit {
-        drop(operand);
-        return Err(Stop::TooDeep);
-    }
     let (tree, depth) = operand.into_parts();
     let tree = signed_of(alloc, sign, tree)?;
-    Ok(ExpressionPart {
-        tree,
-        depth: depth + 1,
-    })
+    fit(limit, tree, depth)
 }
 
 fn make_joined(
@@ -58,19 +59,11 @@ fn make_joined(
 ) -> Result<ExpressionPart, Stop>
     ensures { MakesAs tree_in (fits limit (joined sign left.tree right.tree)) result }
 {
-    let below = left.depth.max(right.depth);
-    if below >= limit {
-        drop(left);
-        drop(right);
-        return Err(Stop::TooDeep);
-    }
-    let (left, _) = left.into_parts();
-    let (right, _) = right.into_parts();
+    let (left, first) = left.into_parts();
+    let (right, second) = right.into_parts();
+    let below = first.max(second);
     let tree = joined_of(alloc, sign, left, right)?;
-    Ok(ExpressionPart {
-        tree,
-        depth: below + 1,
-    })
+    fit(limit, tree, below)
 }
 
 fn leaf(tree: Expression) -> ExpressionPart

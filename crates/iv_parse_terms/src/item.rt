@@ -1,11 +1,12 @@
 //! What may be the beginning of a test.
-use iv_syntax::{Condition, Expression};
+use crate::condition_part::ConditionPart;
+use crate::expression_part::ExpressionPart;
 
 /// A value, or a condition that is whole.
 #[derive(Drop)]
 pub enum Item {
-    Value(Expression),
-    Truth(Condition),
+    Value(ExpressionPart),
+    Truth(ConditionPart),
 }
 
 /// AND or OR.

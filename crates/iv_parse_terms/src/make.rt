@@ -1,8 +1,8 @@
 //! Trees made of trees.
 ghost use Rattle.std.specs.Prelude.{◌≡◌, IfOk};
-ghost use Rattle.iv_syntax.specs.Trees.{group, signed, enclosed, negated};
+ghost use Rattle.iv_syntax.specs.Trees.{group, signed, enclosed, negated, exists_where};
 ghost use Rattle.iv_parse_terms.specs.readers.Expressions.{joined};
-ghost use Rattle.iv_parse_terms.specs.readers.Conditions.{connection, exists_over};
+ghost use Rattle.iv_parse_terms.specs.readers.Conditions.{connection};
 
 use crate::item::Connective;
 use iv_expr::boxes;
@@ -27,7 +27,6 @@ pub fn signed_of(alloc: Global, sign: Sign, a: Expression) -> Result<Expression,
 }
 
 /// The product of two expressions, or their sum or difference where there is a sign.
-
 pub fn joined_of(
     alloc: Global,
     sign: Option<Sign>,
@@ -60,7 +59,6 @@ pub fn negated_of(alloc: Global, a: Condition) -> Result<Condition, AllocError>
 }
 
 /// Two conditions with AND or OR between them.
-
 pub fn connected_of(
     alloc: Global,
     connective: Connective,
@@ -76,17 +74,14 @@ pub fn connected_of(
     }
 }
 
-/// EXISTS over a table, with its condition where there is one.
+/// EXISTS over a table with a condition.
 #[tactic(auto, using(iv_syntax::proofs::TreeShapes::exists_where_is))]
-pub fn exists_of(
+pub fn exists_where_of(
     alloc: Global,
     range: RangeName,
-    condition: Option<Condition>,
+    a: Condition,
 ) -> Result<Condition, AllocError>
-    ensures { IfOk result (λ c. c ≡ exists_over (range, condition)) }
+    ensures { IfOk result (λ c. c ≡ exists_where range a) }
 {
-    match condition {
-        Some(condition) => Ok(Condition::ExistsWhere(range, Boxed::new(alloc, condition)?)),
-        None => Ok(Condition::Exists(range)),
-    }
+    Ok(Condition::ExistsWhere(range, Boxed::new(alloc, a)?))
 }

@@ -1,6 +1,5 @@
 //! Predicates, parentheses, NOT, AND and OR over what was read.
 ghost use Rattle.std.specs.Prelude.{◌≡◌, ◌+◌, ◌≤◌, None};
-ghost use Rattle.iv_parse_terms.specs.declared.item.Item.TheVariants.{Value};
 ghost use Rattle.iv_syntax.specs.Trees.{condition_depth};
 ghost use Rattle.iv_parse_terms.specs.readers.Conditions.{condition_fits, on_value, enclose as enclosed_item, close_item as closed_item, null_test, comparison_from, predicate_from, value_test, negate as negated_item, after_truth, connection_from, truth_alone};
 ghost use Rattle.iv_parse_terms.specs.Reading.{MakesAs, ReadsAs, Tries};
@@ -11,7 +10,6 @@ use crate::cursor::Cursor;
 use crate::expression::{expression, factors, make_group, terms};
 use crate::expression_part::ExpressionPart;
 use crate::item::{Connective, Item};
-use crate::item_part::ItemPart;
 use crate::make::{connected_of, enclosed_of, negated_of};
 use crate::stop::Stop;
 use iv_expr::Comparison;
@@ -19,19 +17,8 @@ use iv_lex::TokenKind;
 use iv_syntax::{Condition, DEEPEST_TREE};
 use std::alloc::Global;
 
-/// The value that was read, as an item.
-pub fn value_item(value: ExpressionPart) -> ItemPart
-    ensures { result.item ≡ Value value.tree }
-{
-    let (tree, depth) = value.into_parts();
-    ItemPart {
-        item: Item::Value(tree),
-        depth,
-    }
-}
-
 /// The condition, where it is not too deep; `below` is the depth of its deepest part.
-pub fn fit(limit: u8, tree: Condition, below: u8) -> Result<ItemPart, Stop>
+pub fn fit(limit: u8, tree: Condition, below: u8) -> Result<Item, Stop>
     requires { condition_depth tree ≡ 1 + below }
     ensures { MakesAs item_in (condition_fits limit tree) result }
 {
@@ -39,22 +26,22 @@ pub fn fit(limit: u8, tree: Condition, below: u8) -> Result<ItemPart, Stop>
         drop(tree);
         return Err(Stop::TooDeep);
     }
-    Ok(ItemPart {
-        item: Item::Truth(tree),
+    Ok(Item::Truth(ConditionPart {
+        tree,
         depth: below + 1,
-    })
+    }))
 }
 
-fn enclose(alloc: Global, limit: u8, inside: ItemPart) -> Result<ItemPart, Stop>
-    ensures { MakesAs item_in (enclosed_item limit inside.item) result }
+fn enclose(alloc: Global, limit: u8, inside: Item) -> Result<Item, Stop>
+    ensures { MakesAs item_in (enclosed_item limit (item_in inside)) result }
 {
-    let (item, depth) = inside.into_parts();
-    match item {
-        Item::Value(tree) => {
-            let group = make_group(alloc, limit, ExpressionPart { tree, depth })?;
-            Ok(value_item(group))
+    match inside {
+        Item::Value(value) => {
+            let group = make_group(alloc, limit, value)?;
+            Ok(Item::Value(group))
         }
-        Item::Truth(tree) => {
+        Item::Truth(condition) => {
+            let (tree, depth) = condition.into_parts();
             let tree = enclosed_of(alloc, tree)?;
             fit(limit, tree, depth)
         }
@@ -62,15 +49,15 @@ fn enclose(alloc: Global, limit: u8, inside: ItemPart) -> Result<ItemPart, Stop>
 }
 
 /// The item in parentheses, where one closes.
-pub fn close_item(cursor: &mut Cursor<'_>, limit: u8, inside: ItemPart) -> Result<ItemPart, Stop>
-    ensures { ReadsAs item_in (closed_item limit inside.item) cursor.old result cursor.new }
+pub fn close_item(cursor: &mut Cursor<'_>, limit: u8, inside: Item) -> Result<Item, Stop>
+    ensures { ReadsAs item_in (closed_item limit (item_in inside)) cursor.old result cursor.new }
 {
     let inside = cursor.followed(inside, TokenKind::RightParenthesis)?;
     enclose(cursor.alloc(), limit, inside)
 }
 
 // IS [NOT] NULL, from what follows IS on.
-fn test_null(cursor: &mut Cursor<'_>, limit: u8, value: ExpressionPart) -> Result<ItemPart, Stop>
+fn test_null(cursor: &mut Cursor<'_>, limit: u8, value: ExpressionPart) -> Result<Item, Stop>
     ensures { ReadsAs item_in (null_test limit value.tree) cursor.old result cursor.new }
 {
     if cursor.accept(TokenKind::Not) {
@@ -86,7 +73,7 @@ fn compare(
     limit: u8,
     by: Comparison,
     left: ExpressionPart,
-) -> Result<ItemPart, Stop>
+) -> Result<Item, Stop>
     requires { limit ≤ DEEPEST_TREE }
     ensures { ReadsAs item_in (comparison_from limit by left.tree) cursor.old result
         cursor.new }
@@ -99,7 +86,7 @@ fn compare(
 }
 
 // The predicate that begins with this value, or the value alone.
-fn test_whole(cursor: &mut Cursor<'_>, limit: u8, value: ExpressionPart) -> Result<ItemPart, Stop>
+fn test_whole(cursor: &mut Cursor<'_>, limit: u8, value: ExpressionPart) -> Result<Item, Stop>
     requires { limit ≤ DEEPEST_TREE }
     ensures { ReadsAs item_in (predicate_from limit value.tree) cursor.old result
         cursor.new }
@@ -110,11 +97,11 @@ fn test_whole(cursor: &mut Cursor<'_>, limit: u8, value: ExpressionPart) -> Resu
     if cursor.accept(TokenKind::Is) {
         return test_null(cursor, limit, value);
     }
-    Ok(value_item(value))
+    Ok(Item::Value(value))
 }
 
 // The test that begins with this factor, or the value alone.
-fn test_value(cursor: &mut Cursor<'_>, limit: u8, value: ExpressionPart) -> Result<ItemPart, Stop>
+fn test_value(cursor: &mut Cursor<'_>, limit: u8, value: ExpressionPart) -> Result<Item, Stop>
     requires { limit ≤ DEEPEST_TREE }
     ensures { ReadsAs item_in (value_test limit value.tree) cursor.old result
         cursor.new }
@@ -125,44 +112,32 @@ fn test_value(cursor: &mut Cursor<'_>, limit: u8, value: ExpressionPart) -> Resu
 }
 
 /// A value goes on to its test; a condition stays as it is.
-pub fn go_on(cursor: &mut Cursor<'_>, limit: u8, found: ItemPart) -> Result<ItemPart, Stop>
+pub fn go_on(cursor: &mut Cursor<'_>, limit: u8, found: Item) -> Result<Item, Stop>
     requires { limit ≤ DEEPEST_TREE }
-    ensures { ReadsAs item_in (on_value (value_test limit) found.item) cursor.old
+    ensures { ReadsAs item_in (on_value (value_test limit) (item_in found)) cursor.old
         result cursor.new }
 {
-    let (item, depth) = found.into_parts();
-    match item {
-        Item::Value(tree) => test_value(cursor, limit, ExpressionPart { tree, depth }),
-        Item::Truth(tree) => Ok(ItemPart {
-            item: Item::Truth(tree),
-            depth,
-        }),
+    match found {
+        Item::Value(value) => test_value(cursor, limit, value),
+        Item::Truth(condition) => Ok(Item::Truth(condition)),
     }
 }
 
 /// NOT and the condition that was read after it.
-pub fn negate(alloc: Global, limit: u8, found: ItemPart) -> Result<ItemPart, Stop>
-    ensures { MakesAs item_in (negated_item limit found.item) result }
+pub fn negate(alloc: Global, limit: u8, found: Item) -> Result<Item, Stop>
+    ensures { MakesAs item_in (negated_item limit (item_in found)) result }
 {
-    let (item, depth) = found.into_parts();
-    match item {
-        Item::Truth(tree) => {
-            let tree = negated_of(alloc, tree)?;
-            fit(limit, tree, depth)
-        }
-        Item::Value(tree) => {
-            drop(tree);
-            Err(Stop::NoMatch)
-        }
-    }
+    let (tree, depth) = truth(found)?.into_parts();
+    let tree = negated_of(alloc, tree)?;
+    fit(limit, tree, depth)
 }
 
 /// Goes past AND or OR, where it comes after a condition.
-pub fn accept_connective(cursor: &mut Cursor<'_>, connective: Connective, found: &ItemPart) -> bool
-    ensures { Tries (after_truth connective found.now.item) cursor.old result
+pub fn accept_connective(cursor: &mut Cursor<'_>, connective: Connective, found: &Item) -> bool
+    ensures { Tries (after_truth connective (item_in found.now)) cursor.old result
         cursor.new }
 {
-    match (&found.item, connective) {
+    match (found, connective) {
         (Item::Truth(_), Connective::And) => cursor.accept(TokenKind::And),
         (Item::Truth(_), Connective::Or) => cursor.accept(TokenKind::Or),
         (Item::Value(_), _) => false,
@@ -170,14 +145,13 @@ pub fn accept_connective(cursor: &mut Cursor<'_>, connective: Connective, found:
 }
 
 /// The condition that was read, where it is no value.
-pub fn truth(found: ItemPart) -> Result<ConditionPart, Stop>
-    ensures { MakesAs condition_in (truth_alone found.item) result }
+pub fn truth(found: Item) -> Result<ConditionPart, Stop>
+    ensures { MakesAs condition_in (truth_alone (item_in found)) result }
 {
-    let (item, depth) = found.into_parts();
-    match item {
-        Item::Truth(tree) => Ok(ConditionPart { tree, depth }),
-        Item::Value(tree) => {
-            drop(tree);
+    match found {
+        Item::Truth(condition) => Ok(condition),
+        Item::Value(value) => {
+            drop(value);
             Err(Stop::NoMatch)
         }
     }
@@ -188,10 +162,10 @@ pub fn join(
     alloc: Global,
     limit: u8,
     connective: Connective,
-    left: ItemPart,
-    right: ItemPart,
-) -> Result<ItemPart, Stop>
-    ensures { MakesAs item_in (connection_from connective limit left.item right.item) result }
+    left: Item,
+    right: Item,
+) -> Result<Item, Stop>
+    ensures { MakesAs item_in (connection_from connective limit (item_in left) (item_in right)) result }
 {
     let left = truth(left)?;
     let right = truth(right)?;

@@ -26,6 +26,11 @@ impl Wanted {
         }
     }
 
+    /// Forgets the kinds.
+    pub fn clear(&mut self) {
+        self.count = 0;
+    }
+
     /// Adds a kind, where there is room for it.
     pub fn add(&mut self, kind: TokenKind) {
         let count = self.count;

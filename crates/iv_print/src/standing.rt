@@ -9,6 +9,7 @@ use crate::device::{DeviceFault, Sink};
 use crate::write::write_all;
 use iv_syntax::Name;
 
+#[tactic(auto, using(crate::proofs::WriteLemmas::writes_then))]
 fn write_further<W: Sink>(sink: &mut W, name: &Name) -> Result<(), DeviceFault>
     ensures { Writes (W.state sink.old) (W.state sink.new) result (further_savepoint name.now) }
 {
@@ -17,6 +18,7 @@ fn write_further<W: Sink>(sink: &mut W, name: &Name) -> Result<(), DeviceFault>
 }
 
 // Further names, each after a comma.
+#[tactic(auto, using(crate::proofs::WriteLemmas::writes_then))]
 fn write_more<W: Sink>(sink: &mut W, names: &[Name]) -> Result<(), DeviceFault>
     ensures { Writes (W.state sink.old) (W.state sink.new) result
         (flat_map further_savepoint names.now) }
@@ -29,6 +31,7 @@ fn write_more<W: Sink>(sink: &mut W, names: &[Name]) -> Result<(), DeviceFault>
     Ok(())
 }
 
+#[tactic(auto, using(crate::proofs::WriteLemmas::writes_then))]
 fn write_words<W: Sink>(sink: &mut W, names: &[Name]) -> Result<(), DeviceFault>
     ensures { Writes (W.state sink.old) (W.state sink.new) result (standing_words names.now) }
 {
@@ -43,6 +46,7 @@ fn write_words<W: Sink>(sink: &mut W, names: &[Name]) -> Result<(), DeviceFault>
 }
 
 /// The line of the savepoints that stand.
+#[tactic(auto, using(crate::proofs::WriteLemmas::writes_then))]
 pub(crate) fn write_standing<W: Sink>(
     sink: &mut W,
     depth: usize,

@@ -7,8 +7,7 @@ use Rattle.iv_parse_terms.specs.Types.condition.{Compare, IsNull, IsNotNull, Exi
 use Rattle.iv_lex.specs.declared.kind.TokenKind.{TokenKind}
 use Rattle.iv_lex.specs.declared.kind.TokenKind.TheVariants as kind
 use Rattle.iv_lex.specs.Words.{Word, plain}
-use Rattle.iv_parse_terms.specs.declared.item.Item.{Item}
-use Rattle.iv_parse_terms.specs.declared.item.Item.TheVariants.{Value, Truth}
+use Rattle.iv_parse_terms.specs.Items.{Item, Value, Truth}
 use Rattle.iv_parse_terms.specs.declared.item.Connective.{Connective}
 use Rattle.iv_parse_terms.specs.declared.item.Connective.TheVariants.{And, Or}
 use Rattle.iv_syntax.specs.Trees.{group, enclosed, negated, both, either, exists_where, condition_depth}
@@ -115,14 +114,13 @@ lead_by limit conditions ws =
 abbrev pub lead_factor_by : ℕ → (List Word → FoundItem) → List Word → FoundItem
 lead_factor_by limit leads ws = if_some (after_sign ws) (λ p. as_item (read_factor limit ws)) (leads ws)
 
-abbrev pub lead_term_by : ℕ → (List Word → FoundItem) → List Word → FoundItem
-lead_term_by limit factors ws = then_read (factors ws) (on_value (λ e rest. as_item (more_factors limit (read_factor limit) limit e rest)))
-
-abbrev pub lead_expression_by : ℕ → (List Word → FoundItem) → List Word → FoundItem
-lead_expression_by limit terms ws = then_read (terms ws) (on_value (λ e rest. as_item (more_terms limit (read_term limit) limit e rest)))
+-- the test that begins with this factor, or the value alone
+unfoldable pub value_test : ℕ → Expression → List Word → FoundItem
+value_test d e ws =
+    then_read (more_factors d (read_factor d) d e ws) (λ a rest. then_read (more_terms d (read_term d) d a rest) (predicate_from d))
 
 abbrev pub test_by : ℕ → (List Word → FoundItem) → List Word → FoundItem
-test_by limit expressions ws = then_read (expressions ws) (on_value (predicate_from limit))
+test_by limit factors ws = then_read (factors ws) (on_value (value_test limit))
 
 abbrev pub negate : ℕ → Item → List Word → FoundItem
 negate limit (Value e) ws = None
@@ -162,7 +160,7 @@ abbrev pub chain_by : Connective → ℕ → (List Word → FoundItem) → List 
 chain_by k limit operands ws = then_read (operands ws) (more_by k limit operands limit)
 
 abbrev pub test_over : ℕ → (List Word → FoundItem) → List Word → FoundItem
-test_over limit leads = test_by limit (lead_expression_by limit (lead_term_by limit (lead_factor_by limit leads)))
+test_over limit leads = test_by limit (lead_factor_by limit leads)
 
 abbrev pub item_over : ℕ → (List Word → FoundItem) → List Word → FoundItem
 item_over limit leads = chain_by Or limit (chain_by And limit (negation_by limit (test_over limit leads)))
@@ -175,14 +173,8 @@ read_lead (suc d) ws = lead_by (suc d) (item_over d (read_lead d)) ws
 unfoldable pub lead_factor : ℕ → List Word → FoundItem
 lead_factor d = lead_factor_by d (read_lead d)
 
--- the test that begins with this factor, or the value alone
-unfoldable pub value_test : ℕ → Expression → List Word → FoundItem
-value_test d e ws =
-    then_read (then_read (as_item (more_factors d (read_factor d) d e ws)) (on_value (λ a rest. as_item (more_terms d (read_term d) d a rest))))
-    (on_value (predicate_from d))
-
 unfoldable pub read_test : ℕ → List Word → FoundItem
-read_test d = test_by d (lead_expression_by d (lead_term_by d (lead_factor d)))
+read_test d = test_by d (lead_factor d)
 
 unfoldable pub read_negation : ℕ → List Word → FoundItem
 read_negation d = negation_by d (read_test d)

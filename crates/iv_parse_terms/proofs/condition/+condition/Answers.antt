@@ -1,13 +1,12 @@
-use Rattle.std.specs.Prelude.{Some, None, Ok, List}
-use Rattle.std.proofs.Common.{◌-◌, refl, subst, sym}
+use Rattle.std.specs.Prelude.{Some, None, Ok}
+use Rattle.std.proofs.Common.{◌-◌, subst, sym}
 use Rattle.iv_lex.specs.declared.kind.TokenKind.TheVariants as kind
 use Rattle.iv_parse_terms.specs.After.{after, if_some, then_read}
 use Rattle.iv_parse_terms.specs.declared.item.Connective.TheVariants.{And, Or}
 use Rattle.iv_parse_terms.specs.readers.Expressions.{after_sign}
-use Rattle.iv_parse_terms.specs.readers.Conditions.{after_select, after_truth, close_exists, close_item, connection_from, exists_by, from_by, lead_factor, more_by, negate, on_value, range_from, read_conjunction, read_from, read_item, read_lead, read_negation, read_operand, read_test, value_test, where_from, with_condition}
+use Rattle.iv_parse_terms.specs.readers.Conditions.{after_select, after_truth, close_exists, close_item, connection_from, exists_by, lead_factor, more_by, negate, on_value, range_from, read_conjunction, read_from, read_item, read_lead, read_negation, read_operand, read_test, value_test, where_from, with_condition}
 use Rattle.iv_parse_terms.specs.Reading.{ReadsAs}
-use Rattle.iv_parse_terms.specs.SeenItem.{item_in}
-use Rattle.iv_parse_terms.specs.SeenFrom.{from_in}
+use Rattle.iv_parse_terms.specs.SeenItem.{from_in, item_in}
 use Rattle.iv_parse_terms.proofs.ConditionSteps.{lead_zero, lead_opened, lead_value, lead_other, lead_step, lead_signed, lead_factor_step, test_is, negated_test, negation_step, conjunction_is, item_is, operand_more, more_step}
 use Rattle.iv_parse_terms.proofs.Rules.{by_rule, made, makes_told, on_expected, expected_told, on_word, on_other, on_part, on_no_part, then_reads, then_told}
 use Rattle.iv_parse_terms.proofs.condition.+condition.Goals as goal
@@ -83,7 +82,7 @@ from_range-returns-then-accept t c =
     (then_reads (λ x. x) from_in range_from (where_from (read_item d)) c.expect.new.self c.range.new.cursor end c.in_ok-range.range r c.in_ok-range.ensures
     (on_word from_in (after kind.Where) (λ ws. then_read (read_item d ws) (with_condition c.in_ok-range.range)) (λ ws. Some ((c.in_ok-range.range, None), ws)) c.range.new.cursor c.accept.new.self end r c.if-accept.ensures
     (then_reads item_in from_in (read_item d) (with_condition c.in_ok-range.range) c.accept.new.self end end c.in_ok-found.found r c.in_ok-found.ensures
-    (made from_in (with_condition c.in_ok-range.range c.in_ok-found.found.item) end r c.with_where.ensures))))
+    (made from_in (with_condition c.in_ok-range.range (item_in c.in_ok-found.found)) end r c.with_where.ensures))))
 
 pub lead_factor-returns-in-Some : goal.lead_factor-returns-in-Some
 lead_factor-returns-in-Some t c =
@@ -140,7 +139,7 @@ negation-returns-then-accept t c =
     by_rule item_in (read_negation d) (λ ws. if_some (after kind.Not ws) (negated_test d) (read_test d ws)) start end r (negation_step d)
     (on_word item_in (after kind.Not) (negated_test d) (read_test d) start c.accept.new.self end r c.if-accept.ensures
     (then_reads item_in item_in (read_test d) (negate d) c.accept.new.self end end c.in_ok-found.found r c.in_ok-found.ensures
-    (made item_in (negate d c.in_ok-found.found.item) end r c.negate.ensures)))
+    (made item_in (negate d (item_in c.in_ok-found.found)) end r c.negate.ensures)))
 
 pub negation-returns : goal.negation-returns
 negation-returns t c =
@@ -168,7 +167,7 @@ operands-returns-in_err-both t c =
     let k = c.args.connective in
     let d = c.args.limit in
     let n = c.args.most in
-    let i = c.args.left.item in
+    let i = item_in c.args.left in
     let F = read_operand k d in
     let start = c.args.cursor.now in
     let middle = c.accept_connective.new.cursor in
@@ -177,14 +176,14 @@ operands-returns-in_err-both t c =
     by_rule item_in (more_by k d F n i) (λ ws. if_some (after_truth k i ws) (operand_more k d F n i) (Some (i, ws))) start end r (λ ws. more_step k d F n i ws c.if-most-eq0.false)
     (on_word item_in (after_truth k i) (operand_more k d F n i) (λ ws. Some (i, ws)) start middle end r c.if-not-accept_connective.ensures
     (then_reads item_in item_in F (λ j more. then_read (connection_from k d i j more) (more_by k d F (n - 1))) middle c.operand.new.cursor end c.in_ok-right.right r c.in_ok-right.ensures
-    (makes_told item_in item_in (connection_from k d i c.in_ok-right.right.item) (more_by k d F (n - 1)) end r c.in_err-both.field-0.0 c.in_err-both.ensures c.from_residual-in_err-both.ensures)))
+    (makes_told item_in item_in (connection_from k d i (item_in c.in_ok-right.right)) (more_by k d F (n - 1)) end r c.in_err-both.field-0.0 c.in_err-both.ensures c.from_residual-in_err-both.ensures)))
 
 pub operands-returns : goal.operands-returns
 operands-returns t c =
     let k = c.args.connective in
     let d = c.args.limit in
     let n = c.args.most in
-    let i = c.args.left.item in
+    let i = item_in c.args.left in
     let F = read_operand k d in
     let start = c.args.cursor.now in
     let middle = c.accept_connective.new.cursor in
@@ -193,8 +192,8 @@ operands-returns t c =
     by_rule item_in (more_by k d F n i) (λ ws. if_some (after_truth k i ws) (operand_more k d F n i) (Some (i, ws))) start end r (λ ws. more_step k d F n i ws c.if-most-eq0.false)
     (on_word item_in (after_truth k i) (operand_more k d F n i) (λ ws. Some (i, ws)) start middle end r c.if-not-accept_connective.ensures
     (then_reads item_in item_in F (λ j more. then_read (connection_from k d i j more) (more_by k d F (n - 1))) middle c.operand.new.cursor end c.in_ok-right.right r c.in_ok-right.ensures
-    (then_reads item_in item_in (connection_from k d i c.in_ok-right.right.item) (more_by k d F (n - 1)) c.operand.new.cursor c.operand.new.cursor end c.in_ok-both.both r
-    (made item_in (connection_from k d i c.in_ok-right.right.item) c.operand.new.cursor (Ok c.in_ok-both.both) c.in_ok-both.ensures) c.operands.ensures)))
+    (then_reads item_in item_in (connection_from k d i (item_in c.in_ok-right.right)) (more_by k d F (n - 1)) c.operand.new.cursor c.operand.new.cursor end c.in_ok-both.both r
+    (made item_in (connection_from k d i (item_in c.in_ok-right.right)) c.operand.new.cursor (Ok c.in_ok-both.both) c.in_ok-both.ensures) c.operands.ensures)))
 
 pub exists-returns-in_err-select : goal.exists-returns-in_err-select
 exists-returns-in_err-select t c =

@@ -1,12 +1,11 @@
-use Rattle.std.specs.Prelude.{Some, Ok, List}
+use Rattle.std.specs.Prelude.{Some, Ok}
 use Rattle.std.proofs.Common.{◌-◌}
 use Rattle.iv_lex.specs.declared.kind.TokenKind.TheVariants as kind
-use Rattle.iv_lex.specs.Words.{Word}
 use Rattle.iv_syntax.specs.Trees.{product, sum}
 use Rattle.iv_parse_terms.specs.After.{after, if_some, then_read}
 use Rattle.iv_parse_terms.specs.readers.Expressions.{after_sign, close_group, fits, more_factors, more_terms, read_expression, read_factor, read_primary, read_term, simple}
 use Rattle.iv_parse_terms.specs.Seen.{tree_in}
-use Rattle.iv_parse_terms.proofs.Rules.{by_rule, made, always, makes_told, on_word, on_other, on_part, then_reads, then_told}
+use Rattle.iv_parse_terms.proofs.Rules.{by_rule, made, makes_told, on_word, on_other, on_part, then_reads, then_told}
 use Rattle.iv_parse_terms.proofs.Steps.{opened, primary_zero, primary_step, factor_more, factors_step, term_more, terms_step}
 use Rattle.iv_parse_terms.proofs.expression.+expression.Goals as goal
 

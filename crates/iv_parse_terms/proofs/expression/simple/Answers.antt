@@ -1,10 +1,10 @@
-use Rattle.std.specs.Prelude.{Some, None, List}
+use Rattle.std.specs.Prelude.{Some, List}
 use Rattle.std.proofs.Common.{subst}
 use Rattle.iv_lex.specs.Words.{Word}
 use Rattle.iv_parse_terms.specs.After.{after_number, after_quoted, if_some}
 use Rattle.iv_parse_terms.specs.Types.expression.{Number, Text}
 use Rattle.iv_parse_terms.specs.readers.Expressions.{FoundExpression, null_or_column, simple}
-use Rattle.iv_parse_terms.specs.Reading.{FoundUnless, TriesPart}
+use Rattle.iv_parse_terms.specs.Reading.{TriesPart}
 use Rattle.iv_parse_terms.specs.Seen.{tree_in}
 use Rattle.iv_parse_terms.proofs.Steps.{simple_is}
 use Rattle.iv_parse_terms.proofs.Rules.{by_rule, on_no_part}

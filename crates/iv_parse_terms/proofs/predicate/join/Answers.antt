@@ -1,7 +1,7 @@
 use Rattle.std.specs.Prelude.{max}
 use Rattle.std.proofs.Common.{◌≡◌, ◌+◌, sym, ◌∙◌, ap, subst}
 use Rattle.iv_syntax.specs.Trees.{condition_depth}
-use Rattle.iv_parse_terms.specs.declared.item.Item.TheVariants.{Truth}
+use Rattle.iv_parse_terms.specs.Items.{Truth}
 use Rattle.iv_parse_terms.specs.readers.Conditions.{condition_fits, connection, truth_alone, connection_from}
 use Rattle.iv_parse_terms.specs.Reading.{GivesAs}
 use Rattle.iv_parse_terms.specs.SeenItem.{condition_in, item_in}
@@ -12,21 +12,21 @@ use Rattle.iv_parse_terms.proofs.predicate.join.Goals as goal
 pub returns-in_err-left : goal.returns-in_err-left
 returns-in_err-left c = λ ws.
     let stop = c.in_err-left.field-0.0 in
-    let whole = connection_from c.args.connective c.args.limit c.args.left.item c.args.right.item ws in
+    let whole = connection_from c.args.connective c.args.limit (item_in c.args.left) (item_in c.args.right) ws in
     told item_in c.from_residual.result stop whole ws c.from_residual.ensures
-    (stop_in stop (truth_alone c.args.left.item ws) whole
-    (λ n. sym (value_joined c.args.connective c.args.limit c.args.left.item c.args.right.item ws ws (sym n)))
-    (stopped condition_in stop (truth_alone c.args.left.item ws) ws (c.in_err-left.ensures ws)))
+    (stop_in stop (truth_alone (item_in c.args.left) ws) whole
+    (λ n. sym (value_joined c.args.connective c.args.limit (item_in c.args.left) (item_in c.args.right) ws ws (sym n)))
+    (stopped condition_in stop (truth_alone (item_in c.args.left) ws) ws (c.in_err-left.ensures ws)))
 
 pub returns-in_err-right : goal.returns-in_err-right
 returns-in_err-right c = λ ws.
     let stop = c.in_err-right.field-0.0 in
-    let whole = connection_from c.args.connective c.args.limit c.args.left.item c.args.right.item ws in
+    let whole = connection_from c.args.connective c.args.limit (item_in c.args.left) (item_in c.args.right) ws in
     told item_in c.from_residual-in_err-right.result stop whole ws c.from_residual-in_err-right.ensures
-    (stop_in stop (truth_alone c.args.right.item ws) whole
-    (λ n. ap (λ i. connection_from c.args.connective c.args.limit i c.args.right.item ws) (sym (truth_is c.args.left.item c.in_ok-left.left.tree ws ws (sym (c.in_ok-left.ensures ws))))
-    ∙ sym (joined_value c.args.connective c.args.limit c.in_ok-left.left.tree c.args.right.item ws (sym n)))
-    (stopped condition_in stop (truth_alone c.args.right.item ws) ws (c.in_err-right.ensures ws)))
+    (stop_in stop (truth_alone (item_in c.args.right) ws) whole
+    (λ n. ap (λ i. connection_from c.args.connective c.args.limit i (item_in c.args.right) ws) (sym (truth_is (item_in c.args.left) c.in_ok-left.left.tree ws ws (sym (c.in_ok-left.ensures ws))))
+    ∙ sym (joined_value c.args.connective c.args.limit c.in_ok-left.left.tree (item_in c.args.right) ws (sym n)))
+    (stopped condition_in stop (truth_alone (item_in c.args.right) ws) ws (c.in_err-right.ensures ws)))
 
 pub fit-requires : goal.fit-requires
 fit-requires c =
@@ -43,9 +43,9 @@ returns c = λ ws.
     let d = c.args.limit in
     let a = c.in_ok-left.left.tree in
     let b = c.in_ok-right.right.tree in
-    let l : Truth a ≡ c.args.left.item = truth_is c.args.left.item a ws ws (sym (c.in_ok-left.ensures ws)) in
-    let r : Truth b ≡ c.args.right.item = truth_is c.args.right.item b ws ws (sym (c.in_ok-right.ensures ws)) in
+    let l : Truth a ≡ (item_in c.args.left) = truth_is (item_in c.args.left) a ws ws (sym (c.in_ok-left.ensures ws)) in
+    let r : Truth b ≡ (item_in c.args.right) = truth_is (item_in c.args.right) b ws ws (sym (c.in_ok-right.ensures ws)) in
     let tree = c.in_ok-tree.ensures ∙ (ap (λ x. connection k x c.into_parts-right.result.0) c.into_parts-left.ensures.tree ∙ ap (connection k a) c.into_parts-right.ensures.tree) in
     subst (λ x. GivesAs item_in x c.fit.result ws)
-    (ap (λ t. condition_fits d t ws) tree ∙ (ap (λ j. connection_from k d (Truth a) j ws) r ∙ ap (λ i. connection_from k d i c.args.right.item ws) l))
+    (ap (λ t. condition_fits d t ws) tree ∙ (ap (λ j. connection_from k d (Truth a) j ws) r ∙ ap (λ i. connection_from k d i (item_in c.args.right) ws) l))
     (c.fit.ensures ws)

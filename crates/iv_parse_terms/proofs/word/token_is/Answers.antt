@@ -5,4 +5,4 @@ use Rattle.iv_parse_terms.proofs.word.token_is.Goals as goal
 
 pub returns : goal.returns
 returns c = λ text.
-    c.eq.ensures ∙ sym (word_is c.args.kind c.args.token.kind (folded_text text c.args.token) (unquoted_text text c.args.token) c.requires)
+    c.eq.ensures ∙ sym (word_is c.args.kind c.args.token.now.kind (folded_text text c.args.token.now) (unquoted_text text c.args.token.now) c.requires)

@@ -1,6 +1,3 @@
-use Rattle.std.proofs.Common.{subst}
-use Rattle.iv_parse_terms.specs.After.{after}
-use Rattle.iv_parse_terms.specs.Reading.{Tries}
 use Rattle.iv_parse_terms.proofs.Likes.{back}
 use Rattle.iv_parse_terms.proofs.cursor.Cursor.accept_both.Goals as goal
 
