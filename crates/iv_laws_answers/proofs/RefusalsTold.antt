@@ -1,5 +1,5 @@
 -- A savepoint that isn't there and a constraint that isn't added are told as the laws say.
-use Rattle.std.proofs.Common.{◌≡◌, ◌∙◌, refl, ℕ, ◌+◌, ◌==◌, Bool, true, false, ◌||◌, if◌then◌else◌, List, [], ◌∷◌, ◌++◌, length, find, option_map, is_some, Option, Some, None, Result, Ok, Err, inl, inr, sym, ap, subst, append-nil, arith}
+use Rattle.std.proofs.Common.{◌≡◌, ◌∙◌, refl, ℕ, ◌+◌, ◌==◌, Bool, true, false, ◌||◌, if◌then◌else◌, List, [], ◌∷◌, ◌++◌, length, find, option_map, is_some, Option, Some, None, Result, Ok, Err, inl, inr, sym, ap, append-nil, arith}
 use Rattle.std.proofs.lemmas.Bool.Decides.{nat_tests}
 use Rattle.std.specs.List.{list_any}
 use Rattle.std.specs.Str.{bytes_eq}
@@ -10,16 +10,16 @@ use Rattle.iv_catalogue.specs.Refusals.{refusal_answer}
 use Rattle.iv_catalogue.specs.declared.constraint.Constraint.{Constraint}
 use Rattle.iv_machine.specs.declared.answer.Answer.{Answer}
 use Rattle.iv_machine.specs.declared.answer.Answer.TheVariants.{Done}
-use Rattle.iv_machine.specs.Databases.{fault_at, first, row_at, scan, violates, violations}
+use Rattle.iv_machine.specs.Databases.{fault_at, first, row_at, violates, violations}
 use Rattle.iv_machine.specs.Machine.{NamedSavepoint, Outcome, Savepoint, State, accept, add_constraint_outcome, refuse, refuse_first, savepoint_named, with_schema}
 use Rattle.iv_machine.proofs.Firsts.{first_of_violations}
 use Rattle.iv_machine.proofs.Scans.{scan_from}
 use Rattle.iv_laws_levels.specs.RisingRows.{InOrder}
 use Rattle.iv_laws_levels.proofs.Members.{In, rows_in}
 use Rattle.iv_account.specs.declared.entry.Entry.{Entry}
-use Rattle.iv_account.specs.declared.entry.Entry.TheVariants.{Standing, NotAdded}
-use Rattle.iv_account.specs.Accounts.{equal_row_by, not_added_told, told_or, with_equal_row}
-use Rattle.iv_account.specs.Sessions.{addition_refused_told, addition_told, names_of, savepoint_told, standing_told}
+use Rattle.iv_account.specs.declared.entry.Entry.TheVariants.{NotAdded}
+use Rattle.iv_account.specs.Accounts.{equal_row_by, told_or, with_equal_row}
+use Rattle.iv_account.specs.Sessions.{addition_refused_told, addition_told, names_of, standing_told}
 use Rattle.iv_laws_answers.specs.RefusalLaws.{AcceptedAdditionsAreNotTold, OtherSavepointsAreNotTold, RefusedAdditionsAreTold, StandingSavepointsAreTold, ToldOf}
 
 -- ---- savepoints
@@ -93,11 +93,11 @@ told_by s k o = told_or o.answer (λ refusal. addition_refused_told s.database.r
 -- a row that is found is one of the rows, and passes
 found_in : {A : Type 0} (p : A → Bool) (xs : List A) (x : A) → find p xs ≡ Some x → In x xs × (p x ≡ true)
 found_in p [] x e = cc
-found_in p (y ∷ xs) x e = by (p y) refl e
+found_in p (y ∷ xs) x e = by (found_in p xs x) (p y) refl e
   where
-    by : (b : Bool) → p y ≡ b → (if b then Some y else find p xs) ≡ Some x → In x (y ∷ xs) × (p x ≡ true)
-    by true passes is = let same : x ≡ y = cc in (inl same, ap p same ∙ passes)
-    by false fails is = let rest : In x xs × (p x ≡ true) = found_in p xs x is in (inr rest.0, rest.1)
+    by : (find p xs ≡ Some x → In x xs × (p x ≡ true)) → (b : Bool) → p y ≡ b → (if b then Some y else find p xs) ≡ Some x → In x (y ∷ xs) × (p x ≡ true)
+    by later true passes is = let same : x ≡ y = cc in (inl same, ap p same ∙ passes)
+    by later false fails is = let rest : In x xs × (p x ≡ true) = later is in (inr rest.0, rest.1)
 
 -- the number for which a constraint isn't added
 abbrev number_of : Cause → ℕ

@@ -1,7 +1,6 @@
 //! CREATE TRIGGER.
-ghost use Rattle.std.specs.Prelude.{◌≡◌};
 ghost use Rattle.iv_parse_terms.specs.Reading.{MakesAs, Reads};
-ghost use Rattle.iv_parse.specs.readers.Triggers.{some_items, read_referencing, read_granularity, read_when, read_action_time, read_update_columns, read_event, read_occasion, read_middle, trigger_of, read_trigger};
+ghost use Rattle.iv_parse.specs.readers.Triggers.{some_items, read_referencing, read_granularity, read_when, read_action_time, read_update_columns, read_event, read_occasion, read_middle, read_trigger};
 
 use crate::action::body;
 use iv_lex::TokenKind;

@@ -24,7 +24,7 @@ impl Parse for ValueOrDefault {
 
     #[tactic(auto, unfolding(crate::specs::readers::Data::read_value))]
     fn parse(cursor: &mut Cursor<'_>) -> Result<ValueOrDefault, Stop> {
-        if cursor.accept(TokenKind::Default) {
+        if cursor.accept_in_place(TokenKind::Default) {
             return Ok(ValueOrDefault::Default);
         }
         let value = Expression::parse(cursor)?;

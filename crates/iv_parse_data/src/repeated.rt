@@ -40,7 +40,7 @@ pub fn series<T: Parse + Drop>(cursor: &mut Cursor<'_>) -> Result<Items<T>, Stop
     let first = T::parse(cursor)?;
     let mut items = Items::new(cursor.alloc());
     items.push(first)?;
-    while cursor.accept(TokenKind::Comma) {
+    while cursor.accept_in_place(TokenKind::Comma) {
         let item = T::parse(cursor)?;
         items.push(item)?;
     }

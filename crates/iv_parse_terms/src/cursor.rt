@@ -183,8 +183,16 @@ impl<'a> Cursor<'a> {
     }
 
     /// Goes past this word, where it is the next one.
-    #[inline(always)]
     pub fn accept(&mut self, kind: TokenKind) -> bool
+        requires { is_plain kind ≡ true }
+        ensures { Tries (after kind) self.old result self.new }
+    {
+        self.accept_in_place(kind)
+    }
+
+    /// The same with its code in the place of the call: for words that are looked for at each value.
+    #[inline(always)]
+    pub fn accept_in_place(&mut self, kind: TokenKind) -> bool
         requires { is_plain kind ≡ true }
         ensures { Tries (after kind) self.old result self.new }
     {
@@ -219,7 +227,7 @@ impl<'a> Cursor<'a> {
         requires { is_plain kind ≡ true }
         ensures { Expects (after kind) self.old result self.new }
     {
-        if self.accept(kind) {
+        if self.accept_in_place(kind) {
             return Ok(());
         }
         Err(Stop::NoMatch)
@@ -230,7 +238,7 @@ impl<'a> Cursor<'a> {
         requires { is_plain kind ≡ true }
         ensures { Follows (after kind) value self.old result self.new }
     {
-        if self.accept(kind) {
+        if self.accept_in_place(kind) {
             return Ok(value);
         }
         drop(value);
@@ -314,10 +322,10 @@ impl<'a> Cursor<'a> {
     pub fn accept_sign(&mut self) -> Option<Sign>
         ensures { TriesPart after_sign self.old result self.new }
     {
-        if self.accept(TokenKind::Plus) {
+        if self.accept_in_place(TokenKind::Plus) {
             return Some(Sign::Plus);
         }
-        if self.accept(TokenKind::Minus) {
+        if self.accept_in_place(TokenKind::Minus) {
             return Some(Sign::Minus);
         }
         None

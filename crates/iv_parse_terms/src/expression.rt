@@ -123,7 +123,7 @@ fn primary(cursor: &mut Cursor<'_>, limit: u8) -> Result<ExpressionPart, Stop>
     if limit == 0 {
         return Err(Stop::TooDeep);
     }
-    if cursor.accept(TokenKind::LeftParenthesis) {
+    if cursor.accept_in_place(TokenKind::LeftParenthesis) {
         let inside = expression(&mut *cursor, limit - 1)?;
         return close(&mut *cursor, limit, inside);
     }
@@ -155,7 +155,7 @@ pub fn factors(
     requires few { most ≤ DEEPEST_TREE }
     ensures { ReadsAs tree_in (more_factors limit (read_factor limit) most left.tree) cursor.old result cursor.new }
 {
-    if !cursor.accept(TokenKind::Asterisk) {
+    if !cursor.accept_in_place(TokenKind::Asterisk) {
         return Ok(left);
     }
     if most == 0 {

@@ -27,7 +27,9 @@ impl Wanted {
     }
 
     /// Forgets the kinds.
-    pub fn clear(&mut self) {
+    pub fn clear(&mut self)
+        ensures { wanted_kinds self.new ≡ [] }
+    {
         self.count = 0;
     }
 

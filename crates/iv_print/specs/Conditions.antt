@@ -29,8 +29,12 @@ enclosed_if false text = text
 -- ---- expressions
 
 -- A sign is no node of a tree: -x is 0 minus x.
+abbrev pub is_zero_value : Value → Bool
+is_zero_value (value.Int (pos n)) = n == 0
+is_zero_value _ = false
+
 abbrev pub is_zero : Expr → Bool
-is_zero (expr.Literal (value.Int (pos n))) = n == 0
+is_zero (expr.Literal v) = is_zero_value v
 is_zero _ = false
 
 -- what can stand after a sign: a literal that isn't below 0, or the name of a column

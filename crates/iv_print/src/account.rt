@@ -30,6 +30,7 @@ use iv_machine::Answer;
 use iv_syntax::ReferentialAction;
 use iv_value::{Truth, Value, ValueRef};
 
+#[tactic(auto, using(crate::proofs::WriteLemmas::writes_then))]
 fn write_spaces<W: Sink>(sink: &mut W, depth: usize) -> Result<(), DeviceFault>
     ensures { Writes (W.state sink.old) (W.state sink.new) result (spaces depth) }
 {
@@ -42,6 +43,7 @@ fn write_spaces<W: Sink>(sink: &mut W, depth: usize) -> Result<(), DeviceFault>
 }
 
 /// The front of a line.
+#[tactic(auto, using(crate::proofs::WriteLemmas::writes_then))]
 pub(crate) fn write_indent<W: Sink>(sink: &mut W, depth: usize) -> Result<(), DeviceFault>
     ensures { Writes (W.state sink.old) (W.state sink.new) result (indent depth) }
 {
@@ -75,6 +77,7 @@ pub(crate) fn write_column<W: Sink>(
 }
 
 /// A table and the number of a row of it.
+#[tactic(auto, using(crate::proofs::WriteLemmas::writes_then))]
 pub(crate) fn write_numbered<W: Sink>(
     sink: &mut W,
     catalogue: &Catalogue,
@@ -89,6 +92,7 @@ pub(crate) fn write_numbered<W: Sink>(
 }
 
 /// Values in parentheses.
+#[tactic(auto, using(crate::proofs::WriteLemmas::writes_then))]
 pub(crate) fn write_listed<W: Sink>(sink: &mut W, values: &[Value]) -> Result<(), DeviceFault>
     ensures { Writes (W.state sink.old) (W.state sink.new) result (listed_text values.now) }
 {
@@ -98,6 +102,7 @@ pub(crate) fn write_listed<W: Sink>(sink: &mut W, values: &[Value]) -> Result<()
 }
 
 /// A row after these words, where there is one.
+#[tactic(auto, using(crate::proofs::WriteLemmas::writes_then))]
 pub(crate) fn write_side<W: Sink>(
     sink: &mut W,
     words: &[u8],
@@ -127,6 +132,7 @@ fn verb(change: &Change) -> &'static str
 }
 
 // What the row was and is.
+#[tactic(auto, using(crate::proofs::WriteLemmas::writes_then))]
 fn write_sides<W: Sink>(
     sink: &mut W,
     old: &Option<Row>,
@@ -143,6 +149,7 @@ fn write_sides<W: Sink>(
     }
 }
 
+#[tactic(auto, using(crate::proofs::WriteLemmas::writes_then))]
 fn write_change<W: Sink>(
     sink: &mut W,
     catalogue: &Catalogue,
@@ -157,6 +164,7 @@ fn write_change<W: Sink>(
 }
 
 // The line of a change after these words.
+#[tactic(auto, using(crate::proofs::WriteLemmas::writes_then))]
 fn write_change_line<W: Sink>(
     sink: &mut W,
     catalogue: &Catalogue,
@@ -174,6 +182,7 @@ fn write_change_line<W: Sink>(
 }
 
 // A line for each of the changes.
+#[tactic(auto, using(crate::proofs::WriteLemmas::writes_then))]
 fn write_changes<W: Sink>(
     sink: &mut W,
     catalogue: &Catalogue,
@@ -204,6 +213,7 @@ fn action_words(action: ReferentialAction) -> &'static str
     }
 }
 
+#[tactic(auto, using(crate::proofs::WriteLemmas::writes_then))]
 fn write_action<W: Sink>(
     sink: &mut W,
     catalogue: &Catalogue,
@@ -221,6 +231,7 @@ fn write_action<W: Sink>(
 }
 
 // A line for each of the actions.
+#[tactic(auto, using(crate::proofs::WriteLemmas::writes_then))]
 fn write_actions<W: Sink>(
     sink: &mut W,
     catalogue: &Catalogue,
@@ -239,6 +250,7 @@ fn write_actions<W: Sink>(
 }
 
 // A trigger with the rows that it saw.
+#[tactic(auto, using(crate::proofs::WriteLemmas::writes_then))]
 fn write_asked<W: Sink>(
     sink: &mut W,
     catalogue: &Catalogue,
@@ -258,6 +270,7 @@ fn write_asked<W: Sink>(
 }
 
 // A trigger that runs, and what it saw.
+#[tactic(auto, using(crate::proofs::WriteLemmas::writes_then))]
 fn write_ran<W: Sink>(
     sink: &mut W,
     catalogue: &Catalogue,
@@ -291,6 +304,7 @@ pub(crate) fn truth_name(truth: Truth) -> &'static str
 }
 
 // A trigger that is skipped, what it saw, and why.
+#[tactic(auto, using(crate::proofs::WriteLemmas::writes_then))]
 fn write_skipped<W: Sink>(
     sink: &mut W,
     catalogue: &Catalogue,
@@ -313,6 +327,7 @@ fn nothing_text(nothing: bool) -> &'static str
     if nothing { " changes nothing" } else { "" }
 }
 
+#[tactic(auto, using(crate::proofs::WriteLemmas::writes_then))]
 fn write_began<W: Sink>(
     sink: &mut W,
     depth: usize,
@@ -328,6 +343,7 @@ fn write_began<W: Sink>(
     write_all(sink, b"\n")
 }
 
+#[tactic(auto, using(crate::proofs::WriteLemmas::writes_then))]
 fn write_further_borrowed<W: Sink>(sink: &mut W, value: ValueRef<'_>) -> Result<(), DeviceFault>
     ensures { Writes (W.state sink.old) (W.state sink.new) result
         (further_text (value_of value.entry)) }
@@ -337,6 +353,7 @@ fn write_further_borrowed<W: Sink>(sink: &mut W, value: ValueRef<'_>) -> Result<
 }
 
 // The values of further columns, each with its comma.
+#[tactic(auto, using(crate::proofs::WriteLemmas::writes_then))]
 fn write_more_columns<W: Sink>(
     sink: &mut W,
     columns: &[u32],
@@ -354,6 +371,7 @@ fn write_more_columns<W: Sink>(
 }
 
 // The values of some columns.
+#[tactic(auto, using(crate::proofs::WriteLemmas::writes_then))]
 fn write_columns<W: Sink>(sink: &mut W, columns: &[u32], row: &[Value]) -> Result<(), DeviceFault>
     ensures { Writes (W.state sink.old) (W.state sink.new) result
         (values_text (key_of columns.now row.now)) }
@@ -367,6 +385,7 @@ fn write_columns<W: Sink>(sink: &mut W, columns: &[u32], row: &[Value]) -> Resul
     }
 }
 
+#[tactic(auto, using(crate::proofs::WriteLemmas::writes_then))]
 fn write_listed_columns<W: Sink>(
     sink: &mut W,
     columns: &[u32],
@@ -395,6 +414,7 @@ fn reference_words(outcome: &Result<Answer, Refusal>) -> &'static str
 }
 
 /// The table and the key to which a row of these values refers.
+#[tactic(auto, using(crate::proofs::WriteLemmas::writes_then))]
 pub(crate) fn write_referenced<W: Sink>(
     sink: &mut W,
     catalogue: &Catalogue,
@@ -410,6 +430,7 @@ pub(crate) fn write_referenced<W: Sink>(
 }
 
 // The key to which a row refers, and why it doesn't do.
+#[tactic(auto, using(crate::proofs::WriteLemmas::writes_then))]
 fn write_refers<W: Sink>(
     sink: &mut W,
     catalogue: &Catalogue,
@@ -443,6 +464,7 @@ fn write_reference<W: Sink>(
 }
 
 // The row whose key another has.
+#[tactic(auto, using(crate::proofs::WriteLemmas::writes_then))]
 fn write_equal<W: Sink>(sink: &mut W, other: &StoredRow) -> Result<(), DeviceFault>
     ensures { Writes (W.state sink.old) (W.state sink.new) result (equal_text other.now) }
 {
@@ -462,6 +484,7 @@ fn write_key<W: Sink>(sink: &mut W, others: &[StoredRow]) -> Result<(), DeviceFa
 }
 
 // The column that is null.
+#[tactic(auto, using(crate::proofs::WriteLemmas::writes_then))]
 fn write_null<W: Sink>(
     sink: &mut W,
     catalogue: &Catalogue,
@@ -524,6 +547,7 @@ fn write_constraint_rule<W: Sink>(
 }
 
 // The first of the rows, and what is wrong with it.
+#[tactic(auto, using(crate::proofs::WriteLemmas::writes_then))]
 pub(crate) fn write_fault_rows<W: Sink>(
     sink: &mut W,
     catalogue: &Catalogue,
@@ -546,6 +570,7 @@ pub(crate) fn write_fault_rows<W: Sink>(
     }
 }
 
+#[tactic(auto, using(crate::proofs::WriteLemmas::writes_then))]
 fn write_fault<W: Sink>(
     sink: &mut W,
     catalogue: &Catalogue,
@@ -618,6 +643,7 @@ fn write_entry<W: Sink>(
 }
 
 // The lines of the entries.
+#[tactic(auto, using(crate::proofs::WriteLemmas::writes_then))]
 fn write_entries<W: Sink>(
     sink: &mut W,
     catalogue: &Catalogue,
@@ -639,6 +665,7 @@ fn write_entries<W: Sink>(
 
 /// Writes the lines of the account of a statement with this outcome, with the names of tables, columns, constraints
 /// and triggers as the catalogue has them. It takes no memory.
+#[tactic(auto, using(crate::proofs::WriteLemmas::writes_then))]
 pub fn write_account<W: Sink>(
     sink: &mut W,
     catalogue: &Catalogue,

@@ -12,6 +12,7 @@ use iv_expr::StoredRow;
 use iv_machine::Answer;
 
 // The first of the rows, and what is wrong with it.
+#[tactic(auto, using(crate::proofs::WriteLemmas::writes_then))]
 fn write_rows<W: Sink>(
     sink: &mut W,
     catalogue: &Catalogue,
@@ -33,6 +34,7 @@ fn write_rows<W: Sink>(
 }
 
 /// The line of a constraint that isn't added and of its rows, in the words of a violation.
+#[tactic(auto, using(crate::proofs::WriteLemmas::writes_then))]
 pub(crate) fn write_not_added<W: Sink>(
     sink: &mut W,
     catalogue: &Catalogue,

@@ -36,6 +36,7 @@ fn write_condition<W: Sink>(
 }
 
 // The condition with the values of the row.
+#[tactic(auto, using(crate::proofs::WriteLemmas::writes_then))]
 fn write_with_values<W: Sink>(
     sink: &mut W,
     columns: &[Column],
@@ -50,6 +51,7 @@ fn write_with_values<W: Sink>(
     write_all(sink, b")")
 }
 
+#[tactic(auto, using(crate::proofs::WriteLemmas::writes_then))]
 fn write_false<W: Sink>(
     sink: &mut W,
     columns: &[Column],
@@ -97,6 +99,7 @@ fn write_quoted<W: Sink>(
     write_all(sink, b"\"")
 }
 
+#[tactic(auto, using(crate::proofs::WriteLemmas::writes_then))]
 fn write_named<W: Sink>(
     sink: &mut W,
     name: &[u8],
@@ -113,6 +116,7 @@ fn write_named<W: Sink>(
 }
 
 // The condition with the names of the columns, and with the values of the row.
+#[tactic(auto, using(crate::proofs::WriteLemmas::writes_then))]
 fn write_both<W: Sink>(
     sink: &mut W,
     columns: &[Column],
@@ -130,6 +134,7 @@ fn write_both<W: Sink>(
     write_named(sink, b"with_values", Shown::Values, columns, row, condition)
 }
 
+#[tactic(auto, using(crate::proofs::WriteLemmas::writes_then))]
 fn write_members<W: Sink>(
     sink: &mut W,
     columns: &[Column],

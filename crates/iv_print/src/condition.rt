@@ -2,7 +2,7 @@
 ghost use Rattle.std.specs.Prelude.{◌≡◌, ◌++◌, codes, option_map};
 ghost use Rattle.std.specs.Option.{option_copied};
 ghost use Rattle.iv_expr.specs.declared.tree.Cond.TheVariants as cond;
-ghost use Rattle.iv_print.specs.Conditions.{column_text, comparison_text, condition_text, enclosed_if, expression_text, is_below_and, is_below_not, is_both, is_either, is_negated, is_null_test, is_operation, is_product, is_signed, is_sum, is_unsigned, is_zero, minus_text, not_text, null_operand, shows_names, takes_sign};
+ghost use Rattle.iv_print.specs.Conditions.{column_text, comparison_text, condition_text, enclosed_if, expression_text, is_below_and, is_below_not, is_both, is_either, is_negated, is_null_test, is_operation, is_product, is_signed, is_sum, is_unsigned, is_zero, is_zero_value, minus_text, not_text, null_operand, shows_names, takes_sign};
 ghost use Rattle.iv_print.specs.Spelled.{spelled};
 ghost use Rattle.iv_print.specs.Writing.{Writes};
 
@@ -24,14 +24,20 @@ pub enum Shown {
 
 // ---- which parts need parentheses
 
+fn is_zero_value(value: &Value) -> bool
+    ensures { result ≡ is_zero_value value.now }
+{
+    match value {
+        Value::Int(number) => *number == 0,
+        _ => false,
+    }
+}
+
 fn is_zero(expr: &Expr) -> bool
     ensures { result ≡ is_zero expr.now }
 {
     match expr {
-        Expr::Literal(value) => match value {
-            Value::Int(number) => *number == 0,
-            _ => false,
-        },
+        Expr::Literal(value) => is_zero_value(value),
         _ => false,
     }
 }

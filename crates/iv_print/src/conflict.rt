@@ -47,6 +47,7 @@ fn write_refers<W: Sink>(
 }
 
 // What the earlier foreign key sets a column to.
+#[tactic(auto, using(crate::proofs::WriteLemmas::writes_then))]
 fn write_earlier<W: Sink>(
     sink: &mut W,
     catalogue: &Catalogue,
@@ -65,6 +66,7 @@ fn write_earlier<W: Sink>(
 }
 
 // What this one sets it to.
+#[tactic(auto, using(crate::proofs::WriteLemmas::writes_then))]
 fn write_later<W: Sink>(
     sink: &mut W,
     catalogue: &Catalogue,
@@ -81,6 +83,7 @@ fn write_later<W: Sink>(
 }
 
 // What the earlier foreign key sets a column to, and what this one does.
+#[tactic(auto, using(crate::proofs::WriteLemmas::writes_then))]
 fn write_settings<W: Sink>(
     sink: &mut W,
     catalogue: &Catalogue,
@@ -96,6 +99,7 @@ fn write_settings<W: Sink>(
 }
 
 // The first of the rows, the key to which it refers, and how the foreign keys disagree.
+#[tactic(auto, using(crate::proofs::WriteLemmas::writes_then))]
 fn write_row<W: Sink>(
     sink: &mut W,
     catalogue: &Catalogue,
@@ -123,6 +127,7 @@ fn write_row<W: Sink>(
 }
 
 /// The line of two foreign keys that disagree about a row.
+#[tactic(auto, using(crate::proofs::WriteLemmas::writes_then))]
 pub(crate) fn write_conflict<W: Sink>(
     sink: &mut W,
     catalogue: &Catalogue,

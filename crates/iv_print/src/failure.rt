@@ -19,6 +19,7 @@ use iv_catalogue::{Catalogue, TriggerId};
 use iv_expr::TableId;
 
 // A trigger after these words.
+#[tactic(auto, using(crate::proofs::WriteLemmas::writes_then))]
 fn write_trigger_after<W: Sink>(
     sink: &mut W,
     words: &[u8],
@@ -33,6 +34,7 @@ fn write_trigger_after<W: Sink>(
 }
 
 // The column, the item of a SELECT or the condition that was evaluated.
+#[tactic(auto, using(crate::proofs::WriteLemmas::writes_then))]
 fn write_part<W: Sink>(
     sink: &mut W,
     catalogue: &Catalogue,
@@ -52,6 +54,7 @@ fn write_part<W: Sink>(
 }
 
 // A column with its table.
+#[tactic(auto, using(crate::proofs::WriteLemmas::writes_then))]
 fn write_column_of<W: Sink>(
     sink: &mut W,
     catalogue: &Catalogue,
@@ -84,6 +87,7 @@ fn write_part_in_table<W: Sink>(
 }
 
 // What was evaluated, and the row at hand.
+#[tactic(auto, using(crate::proofs::WriteLemmas::writes_then))]
 fn write_evaluated<W: Sink>(
     sink: &mut W,
     catalogue: &Catalogue,
@@ -138,6 +142,7 @@ fn write_operator<W: Sink>(sink: &mut W, operator: Operator) -> Result<(), Devic
 }
 
 // A number, and what comes after it.
+#[tactic(auto, using(crate::proofs::WriteLemmas::writes_then))]
 fn write_integer_then<W: Sink>(sink: &mut W, number: i64, after: &[u8]) -> Result<(), DeviceFault>
     ensures { Writes (W.state sink.old) (W.state sink.new) result
         (signed_decimal number ++ after.now) }
@@ -147,6 +152,7 @@ fn write_integer_then<W: Sink>(sink: &mut W, number: i64, after: &[u8]) -> Resul
 }
 
 // The operator and the right number.
+#[tactic(auto, using(crate::proofs::WriteLemmas::writes_then))]
 fn write_right<W: Sink>(sink: &mut W, operator: Operator, right: i64) -> Result<(), DeviceFault>
     ensures { Writes (W.state sink.old) (W.state sink.new) result
         (operator_text operator ++ (signed_decimal right ++ codes " is out of range")) }
@@ -155,6 +161,7 @@ fn write_right<W: Sink>(sink: &mut W, operator: Operator, right: i64) -> Result<
     write_integer_then(sink, right, b" is out of range")
 }
 
+#[tactic(auto, using(crate::proofs::WriteLemmas::writes_then))]
 fn write_out_of_range<W: Sink>(
     sink: &mut W,
     left: i64,
@@ -170,6 +177,7 @@ fn write_out_of_range<W: Sink>(
 }
 
 // A number between these words.
+#[tactic(auto, using(crate::proofs::WriteLemmas::writes_then))]
 fn write_between<W: Sink>(
     sink: &mut W,
     before: &[u8],
@@ -185,6 +193,7 @@ fn write_between<W: Sink>(
 }
 
 // Two numbers between these words.
+#[tactic(auto, using(crate::proofs::WriteLemmas::writes_then))]
 fn write_lengths<W: Sink>(
     sink: &mut W,
     before: &[u8],
@@ -221,6 +230,7 @@ fn write_value_failure<W: Sink>(sink: &mut W, failure: ValueFailure) -> Result<(
 }
 
 /// The line of what failed.
+#[tactic(auto, using(crate::proofs::WriteLemmas::writes_then))]
 pub(crate) fn write_failure<W: Sink>(
     sink: &mut W,
     catalogue: &Catalogue,

@@ -10,6 +10,7 @@ ghost use Rattle.iv_print.specs.Json.{answer_members, cause_members, constraint_
 
 use crate::cause::{cause_name, cause_number, constraint_of, trigger_of};
 use crate::device::{DeviceFault, Sink};
+use crate::names::{constraint_in, trigger_in};
 use crate::outcome::signal_text;
 use crate::write::{write_all, write_nothing, write_number};
 use itoa::Buffer;
@@ -40,6 +41,7 @@ fn write_escaped<W: Sink>(sink: &mut W, byte: u8) -> Result<(), DeviceFault>
 }
 
 /// Writes the bytes of a text as they stand between its quotes in JSON.
+#[tactic(auto, using(crate::proofs::WriteLemmas::writes_then))]
 pub fn write_json_bytes<W: Sink>(sink: &mut W, bytes: &[u8]) -> Result<(), DeviceFault>
     ensures { Writes (W.state sink.old) (W.state sink.new) result (flat_map escaped bytes.now) }
 {
@@ -82,6 +84,7 @@ pub fn write_member<W: Sink>(sink: &mut W, name: &[u8]) -> Result<(), DeviceFaul
 }
 
 /// Writes a member that is a text. The name needs no escape.
+#[tactic(auto, using(crate::proofs::WriteLemmas::writes_then))]
 pub fn write_text_member<W: Sink>(sink: &mut W, name: &[u8], text: &[u8]) -> Result<(), DeviceFault>
     ensures { Writes (W.state sink.old) (W.state sink.new) result
         (member name.now ++ json_text text.now) }
@@ -91,6 +94,7 @@ pub fn write_text_member<W: Sink>(sink: &mut W, name: &[u8], text: &[u8]) -> Res
 }
 
 /// Writes a member that is a number. The name needs no escape.
+#[tactic(auto, using(crate::proofs::WriteLemmas::writes_then))]
 pub fn write_number_member<W: Sink>(
     sink: &mut W,
     name: &[u8],
@@ -124,6 +128,7 @@ pub(crate) fn write_value<W: Sink>(sink: &mut W, value: &Value) -> Result<(), De
     write_borrowed(sink, value.as_ref())
 }
 
+#[tactic(auto, using(crate::proofs::WriteLemmas::writes_then))]
 fn write_further<W: Sink>(sink: &mut W, value: &Value) -> Result<(), DeviceFault>
     ensures { Writes (W.state sink.old) (W.state sink.new) result (further_value value.now) }
 {
@@ -132,6 +137,7 @@ fn write_further<W: Sink>(sink: &mut W, value: &Value) -> Result<(), DeviceFault
 }
 
 // Further values, each after a comma.
+#[tactic(auto, using(crate::proofs::WriteLemmas::writes_then))]
 fn write_more<W: Sink>(sink: &mut W, values: &[Value]) -> Result<(), DeviceFault>
     ensures { Writes (W.state sink.old) (W.state sink.new) result
         (flat_map further_value values.now) }
@@ -144,6 +150,7 @@ fn write_more<W: Sink>(sink: &mut W, values: &[Value]) -> Result<(), DeviceFault
     Ok(())
 }
 
+#[tactic(auto, using(crate::proofs::WriteLemmas::writes_then))]
 fn write_values<W: Sink>(sink: &mut W, values: &[Value]) -> Result<(), DeviceFault>
     ensures { Writes (W.state sink.old) (W.state sink.new) result (json_values values.now) }
 {
@@ -157,6 +164,7 @@ fn write_values<W: Sink>(sink: &mut W, values: &[Value]) -> Result<(), DeviceFau
 }
 
 // The array of a row's values.
+#[tactic(auto, using(crate::proofs::WriteLemmas::writes_then))]
 pub(crate) fn write_row<W: Sink>(sink: &mut W, values: &[Value]) -> Result<(), DeviceFault>
     ensures { Writes (W.state sink.old) (W.state sink.new) result (json_row values.now) }
 {
@@ -165,6 +173,7 @@ pub(crate) fn write_row<W: Sink>(sink: &mut W, values: &[Value]) -> Result<(), D
     write_all(sink, b"]")
 }
 
+#[tactic(auto, using(crate::proofs::WriteLemmas::writes_then))]
 fn write_further_row<W: Sink>(sink: &mut W, row: &Row) -> Result<(), DeviceFault>
     ensures { Writes (W.state sink.old) (W.state sink.new) result (further_row row.now) }
 {
@@ -173,6 +182,7 @@ fn write_further_row<W: Sink>(sink: &mut W, row: &Row) -> Result<(), DeviceFault
 }
 
 // Further rows, each after a comma.
+#[tactic(auto, using(crate::proofs::WriteLemmas::writes_then))]
 fn write_more_rows<W: Sink>(sink: &mut W, rows: &[Row]) -> Result<(), DeviceFault>
     ensures { Writes (W.state sink.old) (W.state sink.new) result (flat_map further_row rows.now) }
 {
@@ -184,6 +194,7 @@ fn write_more_rows<W: Sink>(sink: &mut W, rows: &[Row]) -> Result<(), DeviceFaul
     Ok(())
 }
 
+#[tactic(auto, using(crate::proofs::WriteLemmas::writes_then))]
 fn write_rows<W: Sink>(sink: &mut W, rows: &[Row]) -> Result<(), DeviceFault>
     ensures { Writes (W.state sink.old) (W.state sink.new) result (json_rows rows.now) }
 {
@@ -196,6 +207,7 @@ fn write_rows<W: Sink>(sink: &mut W, rows: &[Row]) -> Result<(), DeviceFault>
     }
 }
 
+#[tactic(auto, using(crate::proofs::WriteLemmas::writes_then))]
 fn write_cause<W: Sink>(sink: &mut W, cause: &Cause) -> Result<(), DeviceFault>
     ensures { Writes (W.state sink.old) (W.state sink.new) result (cause_members cause.now) }
 {
@@ -212,12 +224,10 @@ pub(crate) fn write_name<W: Sink>(
     ensures { Writes (W.state sink.old) (W.state sink.new) result
         (json_text (name_of (slice_get constraints.now id))) }
 {
-    match constraints.get(id.place() as usize) {
-        Some(constraint) => write_json_text(sink, constraint.name.as_str().as_bytes()),
-        None => write_json_text(sink, b""),
-    }
+    write_json_text(sink, constraint_in(constraints, id).as_bytes())
 }
 
+#[tactic(auto, using(crate::proofs::WriteLemmas::writes_then))]
 fn write_constraint<W: Sink>(
     sink: &mut W,
     catalogue: &Catalogue,
@@ -262,12 +272,10 @@ pub(crate) fn write_trigger_name<W: Sink>(
     ensures { Writes (W.state sink.old) (W.state sink.new) result
         (json_text (trigger_name (trigger_numbered catalogue.now id))) }
 {
-    match catalogue.trigger(id) {
-        Some(trigger) => write_json_text(sink, trigger.name.as_str().as_bytes()),
-        None => write_json_text(sink, b""),
-    }
+    write_json_text(sink, trigger_in(catalogue, id).as_bytes())
 }
 
+#[tactic(auto, using(crate::proofs::WriteLemmas::writes_then))]
 fn write_trigger<W: Sink>(
     sink: &mut W,
     catalogue: &Catalogue,
@@ -307,6 +315,7 @@ fn write_signal<W: Sink>(
 }
 
 // What a refusal speaks of.
+#[tactic(auto, using(crate::proofs::WriteLemmas::writes_then))]
 fn write_details<W: Sink>(
     sink: &mut W,
     catalogue: &Catalogue,
@@ -328,6 +337,7 @@ pub(crate) fn write_kind<W: Sink>(sink: &mut W, kind: &[u8]) -> Result<(), Devic
     write_text_member(sink, b"kind", kind)
 }
 
+#[tactic(auto, using(crate::proofs::WriteLemmas::writes_then))]
 fn write_refusal<W: Sink>(
     sink: &mut W,
     catalogue: &Catalogue,
@@ -341,6 +351,7 @@ fn write_refusal<W: Sink>(
     write_details(sink, catalogue, refusal)
 }
 
+#[tactic(auto, using(crate::proofs::WriteLemmas::writes_then))]
 fn write_answer<W: Sink>(sink: &mut W, answer: &Answer) -> Result<(), DeviceFault>
     ensures { Writes (W.state sink.old) (W.state sink.new) result (answer_members answer.now) }
 {

@@ -51,6 +51,7 @@ pub(crate) fn write_table<W: Sink>(
 }
 
 /// The table and the number of a row.
+#[tactic(auto, using(crate::proofs::WriteLemmas::writes_then))]
 pub(crate) fn write_place<W: Sink>(
     sink: &mut W,
     catalogue: &Catalogue,
@@ -66,6 +67,7 @@ pub(crate) fn write_place<W: Sink>(
 }
 
 /// A row by this name, where there is one.
+#[tactic(auto, using(crate::proofs::WriteLemmas::writes_then))]
 pub(crate) fn write_side<W: Sink>(
     sink: &mut W,
     name: &[u8],
@@ -94,6 +96,7 @@ fn event_name(change: &Change) -> &'static str
     }
 }
 
+#[tactic(auto, using(crate::proofs::WriteLemmas::writes_then))]
 fn write_event<W: Sink>(sink: &mut W, change: &Change) -> Result<(), DeviceFault>
     ensures { Writes (W.state sink.old) (W.state sink.new) result (event_member change.now) }
 {
@@ -102,6 +105,7 @@ fn write_event<W: Sink>(sink: &mut W, change: &Change) -> Result<(), DeviceFault
 }
 
 // What the row was, and what it is.
+#[tactic(auto, using(crate::proofs::WriteLemmas::writes_then))]
 fn write_sides<W: Sink>(sink: &mut W, change: &Change) -> Result<(), DeviceFault>
     ensures { Writes (W.state sink.old) (W.state sink.new) result (side_members change.now) }
 {
@@ -109,6 +113,7 @@ fn write_sides<W: Sink>(sink: &mut W, change: &Change) -> Result<(), DeviceFault
     write_side(sink, b"new", &change.new)
 }
 
+#[tactic(auto, using(crate::proofs::WriteLemmas::writes_then))]
 fn write_change<W: Sink>(
     sink: &mut W,
     catalogue: &Catalogue,
@@ -124,6 +129,7 @@ fn write_change<W: Sink>(
     write_all(sink, b"}")
 }
 
+#[tactic(auto, using(crate::proofs::WriteLemmas::writes_then))]
 fn write_further_change<W: Sink>(
     sink: &mut W,
     catalogue: &Catalogue,
@@ -137,6 +143,7 @@ fn write_further_change<W: Sink>(
 }
 
 // Further changes, each after a comma.
+#[tactic(auto, using(crate::proofs::WriteLemmas::writes_then))]
 fn write_more_changes<W: Sink>(
     sink: &mut W,
     catalogue: &Catalogue,
@@ -153,6 +160,7 @@ fn write_more_changes<W: Sink>(
     Ok(())
 }
 
+#[tactic(auto, using(crate::proofs::WriteLemmas::writes_then))]
 fn write_changes<W: Sink>(
     sink: &mut W,
     catalogue: &Catalogue,
@@ -185,6 +193,7 @@ fn action_name(action: ReferentialAction) -> &'static str
 }
 
 // The foreign key that acts, and its action.
+#[tactic(auto, using(crate::proofs::WriteLemmas::writes_then))]
 fn write_acting<W: Sink>(
     sink: &mut W,
     catalogue: &Catalogue,
@@ -198,6 +207,7 @@ fn write_acting<W: Sink>(
     write_text_member(sink, b"action", action_name(acted.action).as_bytes())
 }
 
+#[tactic(auto, using(crate::proofs::WriteLemmas::writes_then))]
 fn write_action<W: Sink>(
     sink: &mut W,
     catalogue: &Catalogue,
@@ -212,6 +222,7 @@ fn write_action<W: Sink>(
     write_all(sink, b"}")
 }
 
+#[tactic(auto, using(crate::proofs::WriteLemmas::writes_then))]
 fn write_further_action<W: Sink>(
     sink: &mut W,
     catalogue: &Catalogue,
@@ -225,6 +236,7 @@ fn write_further_action<W: Sink>(
 }
 
 // Further actions, each after a comma.
+#[tactic(auto, using(crate::proofs::WriteLemmas::writes_then))]
 fn write_more_actions<W: Sink>(
     sink: &mut W,
     catalogue: &Catalogue,
@@ -241,6 +253,7 @@ fn write_more_actions<W: Sink>(
     Ok(())
 }
 
+#[tactic(auto, using(crate::proofs::WriteLemmas::writes_then))]
 fn write_actions<W: Sink>(
     sink: &mut W,
     catalogue: &Catalogue,
@@ -267,6 +280,7 @@ pub(crate) fn write_because<W: Sink>(sink: &mut W, reason: &[u8]) -> Result<(), 
     write_text_member(sink, b"because", reason)
 }
 
+#[tactic(auto, using(crate::proofs::WriteLemmas::writes_then))]
 fn write_further_borrowed<W: Sink>(sink: &mut W, value: ValueRef<'_>) -> Result<(), DeviceFault>
     ensures { Writes (W.state sink.old) (W.state sink.new) result
         (further_value (value_of value.entry)) }
@@ -276,6 +290,7 @@ fn write_further_borrowed<W: Sink>(sink: &mut W, value: ValueRef<'_>) -> Result<
 }
 
 // The values of further columns, each after a comma.
+#[tactic(auto, using(crate::proofs::WriteLemmas::writes_then))]
 fn write_more_columns<W: Sink>(
     sink: &mut W,
     columns: &[u32],
@@ -293,6 +308,7 @@ fn write_more_columns<W: Sink>(
 }
 
 // The values of some columns.
+#[tactic(auto, using(crate::proofs::WriteLemmas::writes_then))]
 fn write_columns<W: Sink>(sink: &mut W, columns: &[u32], row: &[Value]) -> Result<(), DeviceFault>
     ensures { Writes (W.state sink.old) (W.state sink.new) result
         (json_values (key_of columns.now row.now)) }
@@ -321,6 +337,7 @@ fn reference_reason(outcome: &Result<Answer, Refusal>) -> &'static str
 }
 
 /// The table and the key to which a row of these values refers.
+#[tactic(auto, using(crate::proofs::WriteLemmas::writes_then))]
 pub(crate) fn write_referenced<W: Sink>(
     sink: &mut W,
     catalogue: &Catalogue,
@@ -339,6 +356,7 @@ pub(crate) fn write_referenced<W: Sink>(
 }
 
 // The key to which a row refers, and why it doesn't do.
+#[tactic(auto, using(crate::proofs::WriteLemmas::writes_then))]
 fn write_refers<W: Sink>(
     sink: &mut W,
     catalogue: &Catalogue,
@@ -372,6 +390,7 @@ fn write_reference<W: Sink>(
 }
 
 // The first other row that has the same key.
+#[tactic(auto, using(crate::proofs::WriteLemmas::writes_then))]
 fn write_equal<W: Sink>(sink: &mut W, other: &StoredRow) -> Result<(), DeviceFault>
     ensures { Writes (W.state sink.old) (W.state sink.new) result (equal_members other.now) }
 {
@@ -406,6 +425,7 @@ pub(crate) fn write_column<W: Sink>(
 }
 
 // The column that is null.
+#[tactic(auto, using(crate::proofs::WriteLemmas::writes_then))]
 fn write_null<W: Sink>(
     sink: &mut W,
     catalogue: &Catalogue,
@@ -469,6 +489,7 @@ fn write_constraint_rule<W: Sink>(
 }
 
 // The first of the rows, and what is wrong with it.
+#[tactic(auto, using(crate::proofs::WriteLemmas::writes_then))]
 fn write_violation<W: Sink>(
     sink: &mut W,
     catalogue: &Catalogue,
@@ -495,6 +516,7 @@ fn write_violation<W: Sink>(
 // ---- entries
 
 /// The front of an entry of this kind.
+#[tactic(auto, using(crate::proofs::WriteLemmas::writes_then))]
 pub(crate) fn write_entry_key<W: Sink>(sink: &mut W, kind: &[u8]) -> Result<(), DeviceFault>
     ensures { Writes (W.state sink.old) (W.state sink.new) result (entry_key kind.now) }
 {
@@ -503,6 +525,7 @@ pub(crate) fn write_entry_key<W: Sink>(sink: &mut W, kind: &[u8]) -> Result<(), 
     write_json_text(sink, kind)
 }
 
+#[tactic(auto, using(crate::proofs::WriteLemmas::writes_then))]
 fn write_changed<W: Sink>(
     sink: &mut W,
     catalogue: &Catalogue,
@@ -518,6 +541,7 @@ fn write_changed<W: Sink>(
     write_all(sink, b"]}")
 }
 
+#[tactic(auto, using(crate::proofs::WriteLemmas::writes_then))]
 fn write_acted<W: Sink>(
     sink: &mut W,
     catalogue: &Catalogue,
@@ -534,6 +558,7 @@ fn write_acted<W: Sink>(
 }
 
 // The changes of a trigger's transition tables.
+#[tactic(auto, using(crate::proofs::WriteLemmas::writes_then))]
 fn write_saw<W: Sink>(
     sink: &mut W,
     catalogue: &Catalogue,
@@ -549,6 +574,7 @@ fn write_saw<W: Sink>(
 }
 
 // What a trigger saw.
+#[tactic(auto, using(crate::proofs::WriteLemmas::writes_then))]
 fn write_seen<W: Sink>(
     sink: &mut W,
     catalogue: &Catalogue,
@@ -563,6 +589,7 @@ fn write_seen<W: Sink>(
 }
 
 // A trigger and what it saw.
+#[tactic(auto, using(crate::proofs::WriteLemmas::writes_then))]
 fn write_ran<W: Sink>(
     sink: &mut W,
     catalogue: &Catalogue,
@@ -579,6 +606,7 @@ fn write_ran<W: Sink>(
 }
 
 // What a trigger saw that is skipped, and the truth of its WHEN.
+#[tactic(auto, using(crate::proofs::WriteLemmas::writes_then))]
 fn write_skipped_view<W: Sink>(sink: &mut W, seen: &SkippedView) -> Result<(), DeviceFault>
     ensures { Writes (W.state sink.old) (W.state sink.new) result (skipped_members seen.now) }
 {
@@ -589,6 +617,7 @@ fn write_skipped_view<W: Sink>(sink: &mut W, seen: &SkippedView) -> Result<(), D
 }
 
 // A trigger that is skipped.
+#[tactic(auto, using(crate::proofs::WriteLemmas::writes_then))]
 fn write_skipped<W: Sink>(
     sink: &mut W,
     catalogue: &Catalogue,
@@ -604,6 +633,7 @@ fn write_skipped<W: Sink>(
     write_skipped_view(sink, seen)
 }
 
+#[tactic(auto, using(crate::proofs::WriteLemmas::writes_then))]
 fn write_changes_nothing<W: Sink>(sink: &mut W) -> Result<(), DeviceFault>
     ensures { Writes (W.state sink.old) (W.state sink.new) result changes_nothing }
 {
@@ -622,6 +652,7 @@ fn write_if_nothing<W: Sink>(sink: &mut W, nothing: bool) -> Result<(), DeviceFa
 }
 
 // A nested statement, up to the array of its entries.
+#[tactic(auto, using(crate::proofs::WriteLemmas::writes_then))]
 fn write_began<W: Sink>(sink: &mut W, place: u32, nothing: bool) -> Result<(), DeviceFault>
     ensures { Writes (W.state sink.old) (W.state sink.new) result (began_entry place nothing) }
 {
@@ -633,6 +664,7 @@ fn write_began<W: Sink>(sink: &mut W, place: u32, nothing: bool) -> Result<(), D
     write_all(sink, b"[")
 }
 
+#[tactic(auto, using(crate::proofs::WriteLemmas::writes_then))]
 fn write_faulted<W: Sink>(
     sink: &mut W,
     catalogue: &Catalogue,
@@ -694,6 +726,7 @@ fn separator(first: bool, entry: &Entry) -> &'static [u8]
     }
 }
 
+#[tactic(auto, using(crate::proofs::WriteLemmas::writes_then))]
 fn write_separated<W: Sink>(
     sink: &mut W,
     catalogue: &Catalogue,
@@ -717,6 +750,7 @@ fn begins(entry: &Entry) -> bool
 }
 
 // The ends of so many statements.
+#[tactic(auto, using(crate::proofs::WriteLemmas::writes_then))]
 fn write_ends<W: Sink>(sink: &mut W, depth: usize) -> Result<(), DeviceFault>
     ensures { Writes (W.state sink.old) (W.state sink.new) result (ends depth) }
 {
@@ -728,6 +762,7 @@ fn write_ends<W: Sink>(sink: &mut W, depth: usize) -> Result<(), DeviceFault>
     Ok(())
 }
 
+#[tactic(auto, using(crate::proofs::WriteLemmas::writes_then))]
 fn write_entries<W: Sink>(
     sink: &mut W,
     catalogue: &Catalogue,
@@ -752,6 +787,7 @@ fn write_entries<W: Sink>(
 /// Writes the account of a statement with this outcome as a JSON array, with the names of tables, columns, constraints
 /// and triggers as the catalogue has them. The entries of a nested statement are an array in the entry with which it
 /// begins. It takes no memory.
+#[tactic(auto, using(crate::proofs::WriteLemmas::writes_then))]
 pub fn write_json_account<W: Sink>(
     sink: &mut W,
     catalogue: &Catalogue,

@@ -13,6 +13,7 @@ use iv_expr::StoredRow;
 use iv_machine::Answer;
 
 // The first of the rows, and what is wrong with it.
+#[tactic(auto, using(crate::proofs::WriteLemmas::writes_then))]
 fn write_rows<W: Sink>(
     sink: &mut W,
     catalogue: &Catalogue,
@@ -35,6 +36,7 @@ fn write_rows<W: Sink>(
 }
 
 // The name of the constraint, and what it asks.
+#[tactic(auto, using(crate::proofs::WriteLemmas::writes_then))]
 fn write_described<W: Sink>(
     sink: &mut W,
     catalogue: &Catalogue,
@@ -49,6 +51,7 @@ fn write_described<W: Sink>(
 }
 
 /// The entry of a constraint that isn't added and of its rows, with the members of a violation.
+#[tactic(auto, using(crate::proofs::WriteLemmas::writes_then))]
 pub(crate) fn write_not_added<W: Sink>(
     sink: &mut W,
     catalogue: &Catalogue,

@@ -17,6 +17,7 @@ use iv_expr::{StoredRow, TableId};
 use iv_value::Value;
 
 // Why, and the key to which a row of these values refers by a rule.
+#[tactic(auto, using(crate::proofs::WriteLemmas::writes_then))]
 fn write_refers_by<W: Sink>(
     sink: &mut W,
     catalogue: &Catalogue,
@@ -52,6 +53,7 @@ fn write_refers<W: Sink>(
 }
 
 // The earlier foreign key, the column, and what this one and that one set it to.
+#[tactic(auto, using(crate::proofs::WriteLemmas::writes_then))]
 fn write_settings<W: Sink>(
     sink: &mut W,
     catalogue: &Catalogue,
@@ -72,6 +74,7 @@ fn write_settings<W: Sink>(
 }
 
 // The first of the rows, the key to which it refers, and how the foreign keys disagree.
+#[tactic(auto, using(crate::proofs::WriteLemmas::writes_then))]
 fn write_first<W: Sink>(
     sink: &mut W,
     catalogue: &Catalogue,
@@ -97,6 +100,7 @@ fn write_first<W: Sink>(
 }
 
 /// The entry of two foreign keys that disagree about a row.
+#[tactic(auto, using(crate::proofs::WriteLemmas::writes_then))]
 pub(crate) fn write_conflict<W: Sink>(
     sink: &mut W,
     catalogue: &Catalogue,

@@ -22,6 +22,7 @@ use iv_catalogue::Catalogue;
 use iv_expr::{StoredRow, TableId};
 
 // The column whose value was evaluated.
+#[tactic(auto, using(crate::proofs::WriteLemmas::writes_then))]
 fn write_column_part<W: Sink>(
     sink: &mut W,
     catalogue: &Catalogue,
@@ -39,6 +40,7 @@ fn write_column_part<W: Sink>(
 }
 
 // What was evaluated.
+#[tactic(auto, using(crate::proofs::WriteLemmas::writes_then))]
 fn write_part<W: Sink>(
     sink: &mut W,
     catalogue: &Catalogue,
@@ -63,6 +65,7 @@ fn write_part<W: Sink>(
 }
 
 // A row with its table and number.
+#[tactic(auto, using(crate::proofs::WriteLemmas::writes_then))]
 fn write_stored<W: Sink>(
     sink: &mut W,
     catalogue: &Catalogue,
@@ -77,6 +80,7 @@ fn write_stored<W: Sink>(
 }
 
 // A row from which an INSERT takes its values.
+#[tactic(auto, using(crate::proofs::WriteLemmas::writes_then))]
 fn write_source<W: Sink>(
     sink: &mut W,
     catalogue: &Catalogue,
@@ -91,6 +95,7 @@ fn write_source<W: Sink>(
 }
 
 // The row at hand.
+#[tactic(auto, using(crate::proofs::WriteLemmas::writes_then))]
 fn write_hand<W: Sink>(
     sink: &mut W,
     catalogue: &Catalogue,
@@ -126,6 +131,7 @@ fn write_integer<W: Sink>(sink: &mut W, number: i64) -> Result<(), DeviceFault>
     write_all(sink, buffer.format(number).as_bytes())
 }
 
+#[tactic(auto, using(crate::proofs::WriteLemmas::writes_then))]
 fn write_integer_member<W: Sink>(sink: &mut W, name: &[u8], number: i64) -> Result<(), DeviceFault>
     ensures { Writes (W.state sink.old) (W.state sink.new) result (integer_member name.now number) }
 {
@@ -139,6 +145,7 @@ fn write_operator<W: Sink>(sink: &mut W, operator: Operator) -> Result<(), Devic
     write_text_member(sink, b"operator", operator_sign(operator).as_bytes())
 }
 
+#[tactic(auto, using(crate::proofs::WriteLemmas::writes_then))]
 fn write_out_of_range<W: Sink>(
     sink: &mut W,
     left: i64,
@@ -155,6 +162,7 @@ fn write_out_of_range<W: Sink>(
 }
 
 // What failed.
+#[tactic(auto, using(crate::proofs::WriteLemmas::writes_then))]
 fn write_value_failure<W: Sink>(sink: &mut W, failure: ValueFailure) -> Result<(), DeviceFault>
     ensures { Writes (W.state sink.old) (W.state sink.new) result (failure_members failure) }
 {
@@ -173,6 +181,7 @@ fn write_value_failure<W: Sink>(sink: &mut W, failure: ValueFailure) -> Result<(
 }
 
 /// The entry of what failed.
+#[tactic(auto, using(crate::proofs::WriteLemmas::writes_then))]
 pub(crate) fn write_failure<W: Sink>(
     sink: &mut W,
     catalogue: &Catalogue,

@@ -29,6 +29,7 @@ fn write_words<W: Sink>(
 }
 
 /// What a constraint asks, if it is there.
+#[tactic(auto, using(crate::proofs::WriteLemmas::writes_then))]
 pub(crate) fn write_asked_of<W: Sink>(
     sink: &mut W,
     catalogue: &Catalogue,
@@ -59,6 +60,7 @@ pub(crate) fn write_asked<W: Sink>(
 }
 
 /// The name of a constraint, and what it asks.
+#[tactic(auto, using(crate::proofs::WriteLemmas::writes_then))]
 pub(crate) fn write_described<W: Sink>(
     sink: &mut W,
     catalogue: &Catalogue,

@@ -10,6 +10,7 @@ use crate::json_account::write_entry_key;
 use crate::write::{write_all, write_nothing};
 use iv_syntax::Name;
 
+#[tactic(auto, using(crate::proofs::WriteLemmas::writes_then))]
 fn write_further<W: Sink>(sink: &mut W, name: &Name) -> Result<(), DeviceFault>
     ensures { Writes (W.state sink.old) (W.state sink.new) result (further_name name.now) }
 {
@@ -18,6 +19,7 @@ fn write_further<W: Sink>(sink: &mut W, name: &Name) -> Result<(), DeviceFault>
 }
 
 // Further names, each after a comma.
+#[tactic(auto, using(crate::proofs::WriteLemmas::writes_then))]
 fn write_more<W: Sink>(sink: &mut W, names: &[Name]) -> Result<(), DeviceFault>
     ensures { Writes (W.state sink.old) (W.state sink.new) result
         (flat_map further_name names.now) }
@@ -30,6 +32,7 @@ fn write_more<W: Sink>(sink: &mut W, names: &[Name]) -> Result<(), DeviceFault>
     Ok(())
 }
 
+#[tactic(auto, using(crate::proofs::WriteLemmas::writes_then))]
 fn write_names<W: Sink>(sink: &mut W, names: &[Name]) -> Result<(), DeviceFault>
     ensures { Writes (W.state sink.old) (W.state sink.new) result (json_names names.now) }
 {
@@ -43,6 +46,7 @@ fn write_names<W: Sink>(sink: &mut W, names: &[Name]) -> Result<(), DeviceFault>
 }
 
 /// The entry of the savepoints that stand.
+#[tactic(auto, using(crate::proofs::WriteLemmas::writes_then))]
 pub(crate) fn write_standing<W: Sink>(sink: &mut W, names: &[Name]) -> Result<(), DeviceFault>
     ensures { Writes (W.state sink.old) (W.state sink.new) result (standing_entry names.now) }
 {

@@ -31,6 +31,7 @@ fn write_text<W: Sink>(
     write_all(sink, b"\"")
 }
 
+#[tactic(auto, using(crate::proofs::WriteLemmas::writes_then))]
 fn write_object<W: Sink>(
     sink: &mut W,
     catalogue: &Catalogue,
@@ -55,6 +56,7 @@ fn separator(entries: &[Entry]) -> &'static [u8]
     }
 }
 
+#[tactic(auto, using(crate::proofs::WriteLemmas::writes_then))]
 fn write_separated<W: Sink>(
     sink: &mut W,
     catalogue: &Catalogue,

@@ -1,5 +1,5 @@
 //! Outcomes and accounts as text and as JSON, and the devices that text goes to and scripts come from.
-#![tactic(auto, using(crate::proofs::WriteLemmas::writes_then))]
+#![tactic(auto)]
 
 mod account;
 mod addition;

@@ -1,8 +1,9 @@
-//! Names of tables and columns; nothing for one that isn't there.
+//! Names of what a catalogue has; nothing for what isn't there.
 ghost use Rattle.std.specs.Prelude.{◌≡◌, slice_get};
-ghost use Rattle.iv_print.specs.Lines.{column_name, column_name_in, table_name};
+ghost use Rattle.iv_catalogue.specs.Catalogues.{trigger_numbered};
+ghost use Rattle.iv_print.specs.Lines.{column_name, column_name_in, name_of, table_name, trigger_name};
 
-use iv_catalogue::{Catalogue, Column};
+use iv_catalogue::{Catalogue, Column, Constraint, ConstraintId, TriggerId};
 use iv_expr::TableId;
 
 /// The name of a table.
@@ -30,6 +31,26 @@ pub(crate) fn column_in(catalogue: &Catalogue, table: TableId, column: u64) -> &
 {
     match catalogue.table(table) {
         Some(table) => column_among(table.columns.as_slice(), column),
+        None => "",
+    }
+}
+
+/// The name of a constraint.
+pub(crate) fn constraint_in(constraints: &[Constraint], id: ConstraintId) -> &str
+    ensures { result.now ≡ name_of (slice_get constraints.now id) }
+{
+    match constraints.get(id.place() as usize) {
+        Some(constraint) => constraint.name.as_str(),
+        None => "",
+    }
+}
+
+/// The name of a trigger.
+pub(crate) fn trigger_in(catalogue: &Catalogue, id: TriggerId) -> &str
+    ensures { result.now ≡ trigger_name (trigger_numbered catalogue.now id) }
+{
+    match catalogue.trigger(id) {
+        Some(trigger) => trigger.name.as_str(),
         None => "",
     }
 }

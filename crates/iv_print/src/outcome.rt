@@ -7,6 +7,7 @@ ghost use Rattle.iv_print.specs.Writing.{Writes};
 ghost use Rattle.iv_print.specs.Lines.{quote_doubled, value_text, further_text, values_text, row_text, name_of, constraint_text, row_number_text, fault_text, trigger_text, body_statement, signal_text, signal_details, cause_words, details, inside_trigger, inside_text, answer_rows, answer_text, refusal_text, first_line, row_lines, line};
 
 use crate::device::{DeviceFault, Sink};
+use crate::names::{constraint_in, trigger_in};
 use crate::write::{write_all, write_nothing, write_number};
 use itoa::Buffer;
 use iv_catalogue::{
@@ -27,6 +28,7 @@ fn write_byte<W: Sink>(sink: &mut W, byte: u8) -> Result<(), DeviceFault>
 }
 
 // The characters with each quote doubled.
+#[tactic(auto, using(crate::proofs::WriteLemmas::writes_then))]
 fn write_characters<W: Sink>(sink: &mut W, bytes: &[u8]) -> Result<(), DeviceFault>
     ensures { Writes (W.state sink.old) (W.state sink.new) result
         (flat_map quote_doubled bytes.now) }
@@ -39,6 +41,7 @@ fn write_characters<W: Sink>(sink: &mut W, bytes: &[u8]) -> Result<(), DeviceFau
     Ok(())
 }
 
+#[tactic(auto, using(crate::proofs::WriteLemmas::writes_then))]
 fn write_text<W: Sink>(sink: &mut W, text: &str) -> Result<(), DeviceFault>
     ensures { Writes (W.state sink.old) (W.state sink.new) result
         (codes "'" ++ (flat_map quote_doubled text.now ++ codes "'")) }
@@ -69,6 +72,7 @@ pub(crate) fn write_value<W: Sink>(sink: &mut W, value: &Value) -> Result<(), De
     write_borrowed(sink, value.as_ref())
 }
 
+#[tactic(auto, using(crate::proofs::WriteLemmas::writes_then))]
 fn write_further<W: Sink>(sink: &mut W, value: &Value) -> Result<(), DeviceFault>
     ensures { Writes (W.state sink.old) (W.state sink.new) result (further_text value.now) }
 {
@@ -77,6 +81,7 @@ fn write_further<W: Sink>(sink: &mut W, value: &Value) -> Result<(), DeviceFault
 }
 
 // Further values, each with its comma.
+#[tactic(auto, using(crate::proofs::WriteLemmas::writes_then))]
 fn write_more<W: Sink>(sink: &mut W, values: &[Value]) -> Result<(), DeviceFault>
     ensures { Writes (W.state sink.old) (W.state sink.new) result
         (flat_map further_text values.now) }
@@ -89,6 +94,7 @@ fn write_more<W: Sink>(sink: &mut W, values: &[Value]) -> Result<(), DeviceFault
     Ok(())
 }
 
+#[tactic(auto, using(crate::proofs::WriteLemmas::writes_then))]
 pub(crate) fn write_values<W: Sink>(sink: &mut W, values: &[Value]) -> Result<(), DeviceFault>
     ensures { Writes (W.state sink.old) (W.state sink.new) result (values_text values.now) }
 {
@@ -101,6 +107,7 @@ pub(crate) fn write_values<W: Sink>(sink: &mut W, values: &[Value]) -> Result<()
     }
 }
 
+#[tactic(auto, using(crate::proofs::WriteLemmas::writes_then))]
 fn write_row<W: Sink>(sink: &mut W, row: &Row) -> Result<(), DeviceFault>
     ensures { Writes (W.state sink.old) (W.state sink.new) result (row_text row.now) }
 {
@@ -109,6 +116,7 @@ fn write_row<W: Sink>(sink: &mut W, row: &Row) -> Result<(), DeviceFault>
     write_all(sink, b"\n")
 }
 
+#[tactic(auto, using(crate::proofs::WriteLemmas::writes_then))]
 fn write_rows<W: Sink>(sink: &mut W, rows: &[Row]) -> Result<(), DeviceFault>
     ensures { Writes (W.state sink.old) (W.state sink.new) result (flat_map row_text rows.now) }
 {
@@ -128,12 +136,10 @@ pub(crate) fn write_name<W: Sink>(
     ensures { Writes (W.state sink.old) (W.state sink.new) result
         (name_of (slice_get constraints.now id)) }
 {
-    match constraints.get(id.place() as usize) {
-        Some(constraint) => write_all(sink, constraint.name.as_str().as_bytes()),
-        None => write_nothing(sink),
-    }
+    write_all(sink, constraint_in(constraints, id).as_bytes())
 }
 
+#[tactic(auto, using(crate::proofs::WriteLemmas::writes_then))]
 fn write_constraint<W: Sink>(
     sink: &mut W,
     catalogue: &Catalogue,
@@ -146,6 +152,7 @@ fn write_constraint<W: Sink>(
     write_name(sink, catalogue.constraints(), id)
 }
 
+#[tactic(auto, using(crate::proofs::WriteLemmas::writes_then))]
 pub(crate) fn write_row_number<W: Sink>(sink: &mut W, row: u64) -> Result<(), DeviceFault>
     ensures { Writes (W.state sink.old) (W.state sink.new) result (row_number_text row) }
 {
@@ -153,6 +160,7 @@ pub(crate) fn write_row_number<W: Sink>(sink: &mut W, row: u64) -> Result<(), De
     write_number(sink, row)
 }
 
+#[tactic(auto, using(crate::proofs::WriteLemmas::writes_then))]
 fn write_fault<W: Sink>(
     sink: &mut W,
     catalogue: &Catalogue,
@@ -194,6 +202,7 @@ pub fn cause_words(cause: &Cause) -> &'static str
     }
 }
 
+#[tactic(auto, using(crate::proofs::WriteLemmas::writes_then))]
 pub(crate) fn write_trigger<W: Sink>(
     sink: &mut W,
     catalogue: &Catalogue,
@@ -202,10 +211,7 @@ pub(crate) fn write_trigger<W: Sink>(
     ensures { Writes (W.state sink.old) (W.state sink.new) result (trigger_text catalogue.now id) }
 {
     write_all(sink, b" ")?;
-    match catalogue.trigger(id) {
-        Some(trigger) => write_all(sink, trigger.name.as_str().as_bytes()),
-        None => write_nothing(sink),
-    }
+    write_all(sink, trigger_in(catalogue, id).as_bytes())
 }
 
 /// The text of the SIGNAL at this place of a trigger's body, from 1; none where there is no SIGNAL.
@@ -227,6 +233,7 @@ pub fn signal_text(catalogue: &Catalogue, id: TriggerId, place: u32) -> &str
 }
 
 // The trigger of a SIGNAL and its text.
+#[tactic(auto, using(crate::proofs::WriteLemmas::writes_then))]
 fn write_signal<W: Sink>(
     sink: &mut W,
     catalogue: &Catalogue,
@@ -263,6 +270,7 @@ fn write_details<W: Sink>(
     }
 }
 
+#[tactic(auto, using(crate::proofs::WriteLemmas::writes_then))]
 fn write_inside_trigger<W: Sink>(
     sink: &mut W,
     catalogue: &Catalogue,
@@ -296,6 +304,7 @@ fn write_inside<W: Sink>(
     }
 }
 
+#[tactic(auto, using(crate::proofs::WriteLemmas::writes_then))]
 fn write_refusal<W: Sink>(
     sink: &mut W,
     catalogue: &Catalogue,
@@ -311,6 +320,7 @@ fn write_refusal<W: Sink>(
     write_all(sink, b"\n")
 }
 
+#[tactic(auto, using(crate::proofs::WriteLemmas::writes_then))]
 fn write_answer<W: Sink>(sink: &mut W, answer: &Answer) -> Result<(), DeviceFault>
     ensures { Writes (W.state sink.old) (W.state sink.new) result (answer_text answer.now) }
 {
@@ -340,6 +350,7 @@ fn write_answer_rows<W: Sink>(sink: &mut W, answer: &Answer) -> Result<(), Devic
 
 /// Writes the first line of the outcome of statement `number`, a place in the script from 1, with the names of
 /// constraints and triggers as the catalogue has them. It takes no memory.
+#[tactic(auto, using(crate::proofs::WriteLemmas::writes_then))]
 pub fn write_first_line<W: Sink>(
     sink: &mut W,
     number: u64,
@@ -372,6 +383,7 @@ pub fn write_row_lines<W: Sink>(
 
 /// Writes the lines of the outcome of statement `number`: the first one, and those of the rows of a query. It takes no
 /// memory.
+#[tactic(auto, using(crate::proofs::WriteLemmas::writes_then))]
 pub fn write_outcome<W: Sink>(
     sink: &mut W,
     number: u64,

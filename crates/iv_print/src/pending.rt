@@ -40,6 +40,7 @@ fn write_rows<W: Sink>(
     written
 }
 
+#[tactic(auto, using(crate::proofs::WriteLemmas::writes_then))]
 fn write_violation<W: Sink>(
     sink: &mut W,
     catalogue: &Catalogue,
@@ -75,6 +76,7 @@ fn write_came<W: Sink>(
     }
 }
 
+#[tactic(auto, using(crate::proofs::WriteLemmas::writes_then))]
 fn write_all_came<W: Sink>(
     sink: &mut W,
     catalogue: &Catalogue,
@@ -119,6 +121,7 @@ fn write_row_at<W: Sink>(
     write_row_of(sink, catalogue, catalogue.constraint(constraint), row)
 }
 
+#[tactic(auto, using(crate::proofs::WriteLemmas::writes_then))]
 fn write_went<W: Sink>(
     sink: &mut W,
     catalogue: &Catalogue,
@@ -133,6 +136,7 @@ fn write_went<W: Sink>(
     write_all(sink, b"\n")
 }
 
+#[tactic(auto, using(crate::proofs::WriteLemmas::writes_then))]
 fn write_all_went<W: Sink>(
     sink: &mut W,
     catalogue: &Catalogue,
@@ -150,6 +154,7 @@ fn write_all_went<W: Sink>(
 }
 
 /// Writes the lines of the violations that came, and then of those that went. It takes no memory.
+#[tactic(auto, using(crate::proofs::WriteLemmas::writes_then))]
 pub fn write_pending_lines<W: Sink>(
     sink: &mut W,
     catalogue: &Catalogue,
@@ -179,6 +184,7 @@ fn write_entries<W: Sink>(
     written
 }
 
+#[tactic(auto, using(crate::proofs::WriteLemmas::writes_then))]
 fn write_came_member<W: Sink>(
     sink: &mut W,
     catalogue: &Catalogue,
@@ -211,6 +217,7 @@ fn write_row_members<W: Sink>(
     }
 }
 
+#[tactic(auto, using(crate::proofs::WriteLemmas::writes_then))]
 fn write_went_object<W: Sink>(
     sink: &mut W,
     catalogue: &Catalogue,
@@ -232,6 +239,7 @@ fn write_went_object<W: Sink>(
     write_all(sink, b"}")
 }
 
+#[tactic(auto, using(crate::proofs::WriteLemmas::writes_then))]
 fn write_further_went<W: Sink>(
     sink: &mut W,
     catalogue: &Catalogue,
@@ -244,6 +252,7 @@ fn write_further_went<W: Sink>(
     write_went_object(sink, catalogue, fault)
 }
 
+#[tactic(auto, using(crate::proofs::WriteLemmas::writes_then))]
 fn write_more_went<W: Sink>(
     sink: &mut W,
     catalogue: &Catalogue,
@@ -260,6 +269,7 @@ fn write_more_went<W: Sink>(
     Ok(())
 }
 
+#[tactic(auto, using(crate::proofs::WriteLemmas::writes_then))]
 fn write_went_objects<W: Sink>(
     sink: &mut W,
     catalogue: &Catalogue,
@@ -277,6 +287,7 @@ fn write_went_objects<W: Sink>(
     }
 }
 
+#[tactic(auto, using(crate::proofs::WriteLemmas::writes_then))]
 fn write_went_list<W: Sink>(
     sink: &mut W,
     catalogue: &Catalogue,
@@ -306,6 +317,7 @@ fn write_went_member<W: Sink>(
 }
 
 /// Writes the members of the violations that came and of those that went; none if there are none. It takes no memory.
+#[tactic(auto, using(crate::proofs::WriteLemmas::writes_then))]
 pub fn write_pending_members<W: Sink>(
     sink: &mut W,
     catalogue: &Catalogue,

@@ -48,6 +48,7 @@ fn tell_further_name<W: Sink>(
 }
 
 // Further names, each after a comma.
+#[tactic(auto, using(crate::proofs::WriteLemmas::writes_then))]
 fn tell_more_names<W: Sink>(
     writer: &mut W,
     format: Format,
@@ -406,6 +407,7 @@ fn write_constraint<W: Sink>(
 }
 
 // The same in parentheses, if it is asked for.
+#[tactic(auto, using(crate::proofs::WriteLemmas::writes_then))]
 fn write_words_if<W: Sink>(
     sink: &mut W,
     catalogue: &Catalogue,
@@ -425,6 +427,7 @@ fn write_words_if<W: Sink>(
 }
 
 /// A constraint by its name, and what it asks, if the name was generated.
+#[tactic(auto, using(crate::proofs::WriteLemmas::writes_then))]
 pub(crate) fn write_named<W: Sink>(
     sink: &mut W,
     catalogue: &Catalogue,

@@ -22,6 +22,7 @@ fn tell_byte<W: Sink>(writer: &mut W, format: Format, byte: u8) -> Result<(), De
 }
 
 // The characters with each quote doubled.
+#[tactic(auto, using(crate::proofs::WriteLemmas::writes_then))]
 fn tell_characters<W: Sink>(writer: &mut W, format: Format, bytes: &[u8]) -> Result<(), DeviceFault>
     ensures { Writes (W.state writer.old) (W.state writer.new) result
         (spelled format (flat_map quote_doubled bytes.now)) }

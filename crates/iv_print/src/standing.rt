@@ -1,5 +1,5 @@
 //! The line of the savepoints that stand.
-ghost use Rattle.std.specs.Prelude.{◌≡◌};
+ghost use Rattle.std.specs.Prelude.{◌≡◌, ◌++◌};
 ghost use Rattle.std.specs.List.{flat_map};
 ghost use Rattle.iv_print.specs.AccountLines.{further_savepoint, standing_line, standing_words};
 ghost use Rattle.iv_print.specs.Writing.{Writes};
@@ -9,6 +9,7 @@ use crate::device::{DeviceFault, Sink};
 use crate::write::write_all;
 use iv_syntax::Name;
 
+#[tactic(auto, using(crate::proofs::WriteLemmas::writes_then))]
 fn write_further<W: Sink>(sink: &mut W, name: &Name) -> Result<(), DeviceFault>
     ensures { Writes (W.state sink.old) (W.state sink.new) result (further_savepoint name.now) }
 {
@@ -17,6 +18,7 @@ fn write_further<W: Sink>(sink: &mut W, name: &Name) -> Result<(), DeviceFault>
 }
 
 // Further names, each after a comma.
+#[tactic(auto, using(crate::proofs::WriteLemmas::writes_then))]
 fn write_more<W: Sink>(sink: &mut W, names: &[Name]) -> Result<(), DeviceFault>
     ensures { Writes (W.state sink.old) (W.state sink.new) result
         (flat_map further_savepoint names.now) }
@@ -29,20 +31,33 @@ fn write_more<W: Sink>(sink: &mut W, names: &[Name]) -> Result<(), DeviceFault>
     Ok(())
 }
 
+// These words, the first name, and further ones.
+#[tactic(auto, using(crate::proofs::WriteLemmas::writes_then))]
+fn write_names<W: Sink>(
+    sink: &mut W,
+    words: &[u8],
+    name: &Name,
+    more: &[Name],
+) -> Result<(), DeviceFault>
+    ensures { Writes (W.state sink.old) (W.state sink.new) result
+        (words.now ++ (name.now ++ flat_map further_savepoint more.now)) }
+{
+    write_all(sink, words)?;
+    write_all(sink, name.as_str().as_bytes())?;
+    write_more(sink, more)
+}
+
 fn write_words<W: Sink>(sink: &mut W, names: &[Name]) -> Result<(), DeviceFault>
     ensures { Writes (W.state sink.old) (W.state sink.new) result (standing_words names.now) }
 {
-    match names {
-        [] => write_all(sink, b"no savepoint stands"),
-        [name, more @ ..] => {
-            write_all(sink, b"savepoints that stand: ")?;
-            write_all(sink, name.as_str().as_bytes())?;
-            write_more(sink, more)
-        }
+    match names.split_first() {
+        Some((name, more)) => write_names(sink, b"savepoints that stand: ", name, more),
+        None => write_all(sink, b"no savepoint stands"),
     }
 }
 
 /// The line of the savepoints that stand.
+#[tactic(auto, using(crate::proofs::WriteLemmas::writes_then))]
 pub(crate) fn write_standing<W: Sink>(
     sink: &mut W,
     depth: usize,

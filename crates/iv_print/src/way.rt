@@ -8,6 +8,7 @@ ghost use Rattle.iv_print.specs.Writing.{Writes};
 
 use crate::device::{DeviceFault, Sink};
 use crate::format::Format;
+use crate::names::trigger_in;
 use crate::spelled::{tell, tell_between, tell_nothing};
 use crate::spelled_number::{tell_number_after, tell_number_between};
 use crate::write::{write_all, write_nothing};
@@ -105,10 +106,7 @@ fn trigger_named(catalogue: &Catalogue, id: Option<TriggerId>) -> &str
     let Some(id) = id else {
         return "";
     };
-    match catalogue.trigger(id) {
-        Some(trigger) => trigger.name.as_str(),
-        None => "",
-    }
+    trigger_in(catalogue, id)
 }
 
 fn tell_begun<W: Sink>(
@@ -424,6 +422,7 @@ fn write_limit<W: Sink>(
     tell_limit(sink, Format::Words, catalogue, entries, limit)
 }
 
+#[tactic(auto, using(crate::proofs::WriteLemmas::writes_then))]
 fn write_line<W: Sink>(
     sink: &mut W,
     catalogue: &Catalogue,

@@ -8,6 +8,7 @@ use itoa::Buffer;
 /// Writes all of the bytes.
 // Hundreds of calls write a few bytes each. Its loop in each of them would make the program larger by a thirtieth.
 #[inline(never)]
+#[tactic(auto, using(crate::proofs::WriteLemmas::writes_then))]
 pub fn write_all<W: Sink>(sink: &mut W, bytes: &[u8]) -> Result<(), DeviceFault>
     ensures { Writes (W.state sink.old) (W.state sink.new) result bytes.now }
 {

@@ -15,9 +15,12 @@ use Rattle.iv_account.specs.Telling.{Account, MayTell, and_told}
 abbrev pub TellsPlan : State → Plan → Result Answer Refusal → Account → Account → Type 0
 TellsPlan s p r old new = MatchBool (is_memory r) (Unit {0}) (MayTell (runs_untold p) old new (plan_told s p))
 
--- What is told of a constraint by whether a store with these rows takes it: nothing if it does, and otherwise the row that violates it,
--- unless an allocation failed.
+-- What is told of a constraint that a store with these rows doesn't take: the row that violates it, unless an allocation failed.
+abbrev pub TellsFault : List StoredRow → Constraint → AddFault → Account → Account → Type 0
+TellsFault rows k (fault.Row number) old new = new ≡ and_told old (not_added_told rows k number ∷ [])
+TellsFault rows k fault.NoMemory old new = Unit {0}
+
+-- What is told by whether the store takes it: nothing if it does.
 abbrev pub TellsAddition : {A : Type 0} → List StoredRow → Constraint → Result A AddFault → Account → Account → Type 0
 TellsAddition rows k (Ok a) old new = new ≡ old
-TellsAddition rows k (Err (fault.Row number)) old new = new ≡ and_told old (not_added_told rows k number ∷ [])
-TellsAddition rows k (Err fault.NoMemory) old new = Unit {0}
+TellsAddition rows k (Err f) old new = TellsFault rows k f old new

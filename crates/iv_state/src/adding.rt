@@ -5,7 +5,7 @@ ghost use Rattle.iv_catalogue.specs.declared.limits.TheConstants.{MOST_CONSTRAIN
 ghost use Rattle.iv_modes.specs.ModeMaps.{initial_map};
 ghost use Rattle.iv_store.specs.Stores.{AnswersAdding, first_violating_row, has_keys, store_with_constraint, store_with_table};
 ghost use Rattle.iv_laws_fitting.specs.ConstraintShapes.{ConstraintFits, TableFits};
-ghost use Rattle.iv_state.specs.Telling.{TellsAddition};
+ghost use Rattle.iv_state.specs.Telling.{TellsAddition, TellsFault};
 
 use iv_account::Account;
 use iv_catalogue::{Catalogue, Constraint, Constraints, Table};
@@ -89,7 +89,23 @@ fn copy_constraint<K: Keeper>(
     Ok(modes)
 }
 
-// The same, with the row that the constraint isn't added for.
+// Records the row that a constraint isn't added for, if there is one.
+fn tell_fault<K: Keeper>(
+    store: &K,
+    constraint: &Constraint,
+    fault: &AddFault,
+    account: &mut Account,
+) -> Result<(), AllocError>
+    ensures { OnOk result (TellsFault (K.view store.now).base.rows constraint.now fault.now
+        account.old account.new) }
+{
+    match fault {
+        AddFault::Row(number) => account.refused_addition(store, constraint, *number),
+        AddFault::NoMemory => Ok(()),
+    }
+}
+
+// The same as `copy_constraint`, with the row that the constraint isn't added for.
 fn copy_telling<K: Keeper>(
     store: &mut K,
     catalogue: &Catalogue,
@@ -109,11 +125,10 @@ fn copy_telling<K: Keeper>(
 {
     match copy_constraint(store, catalogue, constraint) {
         Ok(modes) => Ok(modes),
-        Err(AddFault::Row(number)) => {
-            account.refused_addition(store, constraint, number)?;
-            Err(AddFault::Row(number))
+        Err(fault) => {
+            tell_fault(store, constraint, &fault, account)?;
+            Err(fault)
         }
-        Err(AddFault::NoMemory) => Err(AddFault::NoMemory),
     }
 }
 

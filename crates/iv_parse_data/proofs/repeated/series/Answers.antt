@@ -8,18 +8,18 @@ loop-cursor-init g c =
 
 pub returns-in_err-item : goal.returns-in_err-item
 returns-in_err-item g c =
-    series_told g.T.Parse.found c.args.cursor.now c.loop-cursor.cursor c.accept.new.self c.parse-in-loop-cursor.new.cursor c.loop-cursor.items c.from_residual-in_err-item.result c.in_err-item.field-0.0
+    series_told g.T.Parse.found c.args.cursor.now c.loop-cursor.cursor c.accept_in_place.new.self c.parse-in-loop-cursor.new.cursor c.loop-cursor.items c.from_residual-in_err-item.result c.in_err-item.field-0.0
     c.loop-cursor.invariant c.loop-cursor-test.ensures c.in_err-item.ensures c.from_residual-in_err-item.ensures
 
 pub loop-cursor-smaller : goal.loop-cursor-smaller
 loop-cursor-smaller g c =
-    fewer g.T.Parse.found c.loop-cursor.cursor c.accept.new.self c.parse-in-loop-cursor.new.cursor kind.Comma c.parse-in-loop-cursor.result c.loop-cursor-test.ensures c.parse-in-loop-cursor.ensures
+    fewer g.T.Parse.found c.loop-cursor.cursor c.accept_in_place.new.self c.parse-in-loop-cursor.new.cursor kind.Comma c.parse-in-loop-cursor.result c.loop-cursor-test.ensures c.parse-in-loop-cursor.ensures
 
 pub loop-cursor-preserved : goal.loop-cursor-preserved
 loop-cursor-preserved g c =
-    next g.T.Parse.found c.args.cursor.now c.loop-cursor.cursor c.accept.new.self c.parse-in-loop-cursor.new.cursor c.in_ok-item.item c.loop-cursor.items c.push-in-loop-cursor.new.self
+    next g.T.Parse.found c.args.cursor.now c.loop-cursor.cursor c.accept_in_place.new.self c.parse-in-loop-cursor.new.cursor c.in_ok-item.item c.loop-cursor.items c.push-in-loop-cursor.new.self
     c.loop-cursor.invariant c.loop-cursor-test.ensures c.in_ok-item.ensures c.in_ok-push-2.ensures.ok
 
 pub returns : goal.returns
 returns g c =
-    ended g.T.Parse.found c.args.cursor.now c.loop-cursor.cursor c.accept.new.self c.loop-cursor.items c.loop-cursor.invariant c.loop-cursor-test.ensures
+    ended g.T.Parse.found c.args.cursor.now c.loop-cursor.cursor c.accept_in_place.new.self c.loop-cursor.items c.loop-cursor.invariant c.loop-cursor-test.ensures

@@ -19,18 +19,18 @@ primary-returns-in_err-inside t c =
     let end = c.expression.new.cursor in
     let r = c.from_residual.result in
     by_rule tree_in (read_primary d) (λ ws. if_some (after kind.LeftParenthesis ws) (opened d) (simple ws)) start end r (λ ws. primary_step d ws c.if-limit-eq0.false)
-    (on_word tree_in (after kind.LeftParenthesis) (opened d) simple start c.accept.new.self end r c.if-accept.ensures
-    (then_told tree_in tree_in (read_expression (d - 1)) (close_group d) c.accept.new.self end r c.in_err-inside.field-0.0 c.in_err-inside.ensures c.from_residual.ensures))
+    (on_word tree_in (after kind.LeftParenthesis) (opened d) simple start c.accept_in_place.new.self end r c.if-accept_in_place.ensures
+    (then_told tree_in tree_in (read_expression (d - 1)) (close_group d) c.accept_in_place.new.self end r c.in_err-inside.field-0.0 c.in_err-inside.ensures c.from_residual.ensures))
 
-pub primary-returns-then-accept : goal.primary-returns-then-accept
-primary-returns-then-accept t c =
+pub primary-returns-then-accept_in_place : goal.primary-returns-then-accept_in_place
+primary-returns-then-accept_in_place t c =
     let d = c.args.limit in
     let start = c.args.cursor.now in
     let end = c.close.new.cursor in
     let r = c.close.result in
     by_rule tree_in (read_primary d) (λ ws. if_some (after kind.LeftParenthesis ws) (opened d) (simple ws)) start end r (λ ws. primary_step d ws c.if-limit-eq0.false)
-    (on_word tree_in (after kind.LeftParenthesis) (opened d) simple start c.accept.new.self end r c.if-accept.ensures
-    (then_reads tree_in tree_in (read_expression (d - 1)) (close_group d) c.accept.new.self c.expression.new.cursor end c.in_ok-inside.inside r c.in_ok-inside.ensures c.close.ensures))
+    (on_word tree_in (after kind.LeftParenthesis) (opened d) simple start c.accept_in_place.new.self end r c.if-accept_in_place.ensures
+    (then_reads tree_in tree_in (read_expression (d - 1)) (close_group d) c.accept_in_place.new.self c.expression.new.cursor end c.in_ok-inside.inside r c.in_ok-inside.ensures c.close.ensures))
 
 pub primary-returns : goal.primary-returns
 primary-returns t c =
@@ -39,7 +39,7 @@ primary-returns t c =
     let end = c.simple.new.cursor in
     let r = c.simple.result in
     by_rule tree_in (read_primary d) (λ ws. if_some (after kind.LeftParenthesis ws) (opened d) (simple ws)) start end r (λ ws. primary_step d ws c.if-limit-eq0.false)
-    (on_other tree_in (after kind.LeftParenthesis) (opened d) simple start c.accept.new.self end r c.if-accept.ensures c.simple.ensures)
+    (on_other tree_in (after kind.LeftParenthesis) (opened d) simple start c.accept_in_place.new.self end r c.if-accept_in_place.ensures c.simple.ensures)
 
 pub factors-returns-in_err-right : goal.factors-returns-in_err-right
 factors-returns-in_err-right t c =
@@ -48,11 +48,11 @@ factors-returns-in_err-right t c =
     let a = c.args.left.tree in
     let F = read_factor c.args.limit in
     let start = c.args.cursor.now in
-    let middle = c.accept.new.self in
+    let middle = c.accept_in_place.new.self in
     let end = c.factor.new.cursor in
     let r = c.from_residual.result in
     by_rule tree_in (more_factors d F n a) (λ ws. if_some (after kind.Asterisk ws) (factor_more d F n a) (Some (a, ws))) start end r (λ ws. factors_step d F n a ws c.if-most-eq0.false)
-    (on_word tree_in (after kind.Asterisk) (factor_more d F n a) (λ ws. Some (a, ws)) start middle end r c.if-not-accept.ensures
+    (on_word tree_in (after kind.Asterisk) (factor_more d F n a) (λ ws. Some (a, ws)) start middle end r c.if-not-accept_in_place.ensures
     (then_told tree_in tree_in F (λ b more. then_read (fits d (product a b) more) (more_factors d F (n - 1))) middle end r c.in_err-right.field-0.0 c.in_err-right.ensures c.from_residual.ensures))
 
 pub factors-returns-in_err-both : goal.factors-returns-in_err-both
@@ -62,11 +62,11 @@ factors-returns-in_err-both t c =
     let a = c.args.left.tree in
     let F = read_factor c.args.limit in
     let start = c.args.cursor.now in
-    let middle = c.accept.new.self in
+    let middle = c.accept_in_place.new.self in
     let end = c.factor.new.cursor in
     let r = c.from_residual-in_err-both.result in
     by_rule tree_in (more_factors d F n a) (λ ws. if_some (after kind.Asterisk ws) (factor_more d F n a) (Some (a, ws))) start end r (λ ws. factors_step d F n a ws c.if-most-eq0.false)
-    (on_word tree_in (after kind.Asterisk) (factor_more d F n a) (λ ws. Some (a, ws)) start middle end r c.if-not-accept.ensures
+    (on_word tree_in (after kind.Asterisk) (factor_more d F n a) (λ ws. Some (a, ws)) start middle end r c.if-not-accept_in_place.ensures
     (then_reads tree_in tree_in F (λ b more. then_read (fits d (product a b) more) (more_factors d F (n - 1))) middle end end c.in_ok-right.right r c.in_ok-right.ensures
     (makes_told tree_in tree_in (fits d (product a c.in_ok-right.right.tree)) (more_factors d F (n - 1)) end r c.in_err-both.field-0.0 c.in_err-both.ensures c.from_residual-in_err-both.ensures)))
 
@@ -77,11 +77,11 @@ factors-returns t c =
     let a = c.args.left.tree in
     let F = read_factor c.args.limit in
     let start = c.args.cursor.now in
-    let middle = c.accept.new.self in
+    let middle = c.accept_in_place.new.self in
     let end = c.factors.new.cursor in
     let r = c.factors.result in
     by_rule tree_in (more_factors d F n a) (λ ws. if_some (after kind.Asterisk ws) (factor_more d F n a) (Some (a, ws))) start end r (λ ws. factors_step d F n a ws c.if-most-eq0.false)
-    (on_word tree_in (after kind.Asterisk) (factor_more d F n a) (λ ws. Some (a, ws)) start middle end r c.if-not-accept.ensures
+    (on_word tree_in (after kind.Asterisk) (factor_more d F n a) (λ ws. Some (a, ws)) start middle end r c.if-not-accept_in_place.ensures
     (then_reads tree_in tree_in F (λ b more. then_read (fits d (product a b) more) (more_factors d F (n - 1))) middle c.factor.new.cursor end c.in_ok-right.right r c.in_ok-right.ensures
     (then_reads tree_in tree_in (fits d (product a c.in_ok-right.right.tree)) (more_factors d F (n - 1)) c.factor.new.cursor c.factor.new.cursor end c.in_ok-both.both r
     (made tree_in (fits d (product a c.in_ok-right.right.tree)) c.factor.new.cursor (Ok c.in_ok-both.both) c.in_ok-both.ensures) c.factors.ensures)))

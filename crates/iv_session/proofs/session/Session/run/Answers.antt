@@ -1,12 +1,13 @@
-use Rattle.std.proofs.Common.{◌∙◌, ap, subst, sym, MatchBool}
+use Rattle.std.proofs.Common.{◌∙◌, ℕ, List, true, ap, subst, sym, MatchBool}
 use Rattle.iv_syntax.specs.declared.statement.Statement.TheVariants as statement
+use Rattle.iv_account.specs.Sessions.{savepoint_told}
 use Rattle.iv_account.specs.Telling.{MayTell}
 use Rattle.iv_catalogue.specs.Refusals.{is_memory}
 use Rattle.iv_machine.specs.Machine.{Outcome, State, commit_outcome, is_open, occasion_of, rollback_outcome, transaction_cause}
 use Rattle.iv_resolution.specs.Resolution.{resolution}
 use Rattle.iv_step.specs.Step.{step}
 use Rattle.iv_step.specs.Telling.{may_be_untold, statement_told}
-use Rattle.iv_session.proofs.Told.{barred_untold, commit_is_told}
+use Rattle.iv_session.proofs.Told.{barred_untold, commit_is_told, rollback_to_is_told}
 use Rattle.iv_session.specs.Types.{Statement}
 use Rattle.iv_state.specs.Kept.{Seen}
 use Rattle.iv_state.specs.Performing.{Performs, Runs}
@@ -51,7 +52,7 @@ invariant_of-self-in-Rollback g c =
 
 pub invariant_of-self-then-is_writable : goal.invariant_of-self-then-is_writable
 invariant_of-self-then-is_writable g c =
-    performs_reached c.self.inside.state.state (transaction.RollbackTo c.as_str.result.now) c.rollback_to.result c.rollback_to.new.self c.self.invariant c.rollback_to.ensures.performs
+    performs_reached c.self.inside.state.state (transaction.RollbackTo c.as_str-then-is_writable.result.now) c.rollback_to.result c.rollback_to.new.self c.self.invariant c.rollback_to.ensures.performs
 
 pub returns-in-Some-clause-told : goal.returns-in-Some-clause-told
 returns-in-Some-clause-told g c =
@@ -66,3 +67,12 @@ returns-in-Commit-clause-told g c =
     (MayTell (may_be_untold (resolution x.state.schema c.args.statement.now)) x.account c.commit_statement.new.account (statement_told x.state c.args.statement.now))) c.self.view_is
     (commit_is_told c.self.inside.state.state c.args.statement.now (is_memory c.commit_statement.result) c.self.inside.account c.commit_statement.new.account
     c.in-Commit.is c.commit_statement.ensures.told)
+
+pub returns-then-is_writable-clause-told : goal.returns-then-is_writable-clause-told
+returns-then-is_writable-clause-told g c =
+    let s : State = c.self.inside.state.state in
+    subst (λ (x : Seen). MatchBool (is_memory c.rollback_to.result) (Unit {0})
+    (MayTell (may_be_untold (resolution x.state.schema c.args.statement.now)) x.account c.tell_rollback_to.new.account (statement_told x.state c.args.statement.now))) c.self.view_is
+    (rollback_to_is_told s c.args.statement.now c.in-RollbackTo.name (is_memory c.rollback_to.result) c.self.inside.account c.tell_rollback_to.new.account
+    c.in-RollbackTo.is (sym c.is_writable.ensures ∙ c.if-is_writable.true) (sym c.in_default.ensures)
+    (subst (λ (n : List ℕ). MayTell true c.self.inside.account c.tell_rollback_to.new.account (savepoint_told s n)) c.as_str.ensures c.tell_rollback_to.ensures))

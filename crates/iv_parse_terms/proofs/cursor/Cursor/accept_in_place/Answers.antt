@@ -1,6 +1,6 @@
 use Rattle.std.proofs.Common.{sym, ◌∙◌, arith}
 use Rattle.iv_parse_terms.proofs.Likes.{accepted_by, missed_by, within}
-use Rattle.iv_parse_terms.proofs.cursor.Cursor.accept.Goals as goal
+use Rattle.iv_parse_terms.proofs.cursor.Cursor.accept_in_place.Goals as goal
 
 pub pass-requires : goal.pass-requires
 pass-requires c =
