@@ -259,17 +259,18 @@ static int savepoints(sqlkeep *session) {
     sqlkeep_cell cell;
     uint8_t bytes[20];
     size_t count = 0;
-    WANT(executed(session, "START TRANSACTION; RELEASE SAVEPOINT first;", &outcome) == SQLKEEP_REFUSED && outcome.cause == SQLKEEP_CAUSE_UNKNOWN_SAVEPOINT);
+    WANT(sqlkeep_rollback(session) == SQLKEEP_OK);
+    WANT(executed(session, "START TRANSACTION; RELEASE SAVEPOINT early;", &outcome) == SQLKEEP_REFUSED && outcome.cause == SQLKEEP_CAUSE_UNKNOWN_SAVEPOINT);
     WANT(sqlkeep_entries(session, &count) == SQLKEEP_OK && count == 1 && is_entry(session, 0, SQLKEEP_ENTRY_SAVEPOINTS, 0));
     WANT(sqlkeep_entry_name(session, 0, 0, 0, bytes, sizeof bytes, &count) == SQLKEEP_NOTHING);
-    WANT(executed(session, "SAVEPOINT first; SAVEPOINT second; ROLLBACK TO SAVEPOINT third;", &outcome) == SQLKEEP_REFUSED);
+    WANT(executed(session, "SAVEPOINT early; SAVEPOINT middle; ROLLBACK TO SAVEPOINT absent;", &outcome) == SQLKEEP_REFUSED);
     WANT(sqlkeep_entries(session, &count) == SQLKEEP_OK && count == 1 && is_entry(session, 0, SQLKEEP_ENTRY_SAVEPOINTS, 2));
     WANT(sqlkeep_entry(session, 0, &entry) == SQLKEEP_OK && entry.constraint == 0 && entry.row == 0 && entry.has_old == 0 && entry.has_new == 0);
-    WANT(is_name(session, 0, 0, "FIRST") && is_name(session, 0, 1, "SECOND"));
-    WANT(sqlkeep_entry_name(session, 0, 1, 3, bytes, sizeof bytes, &count) == SQLKEEP_OK && count == 3 && memcmp(bytes, "OND", 3) == 0);
+    WANT(is_name(session, 0, 0, "EARLY") && is_name(session, 0, 1, "MIDDLE"));
+    WANT(sqlkeep_entry_name(session, 0, 1, 3, bytes, sizeof bytes, &count) == SQLKEEP_OK && count == 3 && memcmp(bytes, "DLE", 3) == 0);
     WANT(sqlkeep_entry_name(session, 0, 2, 0, bytes, sizeof bytes, &count) == SQLKEEP_NOTHING && sqlkeep_entry_name(session, 1, 0, 0, bytes, sizeof bytes, &count) == SQLKEEP_NOTHING);
     WANT(sqlkeep_entry_item(session, 0, 0, &item) == SQLKEEP_NOTHING && sqlkeep_entry_value(session, 0, 0, SQLKEEP_NEW, 0, &cell) == SQLKEEP_NOTHING);
-    WANT(executed(session, "ROLLBACK TO SAVEPOINT second;", &outcome) == SQLKEEP_DONE && sqlkeep_entries(session, &count) == SQLKEEP_OK && count == 0);
+    WANT(executed(session, "ROLLBACK TO SAVEPOINT middle;", &outcome) == SQLKEEP_DONE && sqlkeep_entries(session, &count) == SQLKEEP_OK && count == 0);
     WANT(sqlkeep_rollback(session) == SQLKEEP_OK);
     return 0;
 }
