@@ -259,7 +259,7 @@ static int savepoints(sqlkeep *session) {
     sqlkeep_cell cell;
     uint8_t bytes[20];
     size_t count = 0;
-    WANT(sqlkeep_rollback(session) == SQLKEEP_OK);
+    WANT(sqlkeep_rollback(session) == SQLKEEP_OK && sqlkeep_explain(session, 1) == SQLKEEP_OK);
     WANT(executed(session, "START TRANSACTION; RELEASE SAVEPOINT early;", &outcome) == SQLKEEP_REFUSED && outcome.cause == SQLKEEP_CAUSE_UNKNOWN_SAVEPOINT);
     WANT(sqlkeep_entries(session, &count) == SQLKEEP_OK && count == 1 && is_entry(session, 0, SQLKEEP_ENTRY_SAVEPOINTS, 0));
     WANT(sqlkeep_entry_name(session, 0, 0, 0, bytes, sizeof bytes, &count) == SQLKEEP_NOTHING);
