@@ -34,10 +34,9 @@ NOTICES = {
     'iv_resolution': 'iv_worked', 'iv_syntax': 'iv_worked',
     'iv_step': 'iv_step', 'iv_print': 'iv_print', 'iv_script': 'iv_script', 'iv_explain': 'iv_explain',
 }
-# Of these the definitions alone are copied. Four have their worked scripts beside the definitions: in one file, with one of theorems.
+# Of these the definitions alone are copied. Four have their worked scripts beside the definitions; this file of theorems names them.
 DEFINED = ['iv_machine', 'iv_account', 'iv_resolution', 'iv_step', 'iv_print', 'iv_script', 'iv_explain']
-OWN = {'iv_step': ('Worked', 'WorkedScripts'), 'iv_print': ('WorkedAccounts', 'Worked'), 'iv_script': ('WorkedLines', 'Worked'),
-       'iv_explain': ('WorkedNames', 'ComputedNames')}
+OWN = {'iv_step': 'WorkedScripts', 'iv_print': 'Worked', 'iv_script': 'Worked', 'iv_explain': 'ComputedNames'}
 WORKED = ['iv_worked']
 CHANGES = os.path.join(HERE, 'definitions.edits')
 DIGEST = os.path.join(HERE, 'definitions.digest')
@@ -65,7 +64,8 @@ def definitions(crate):
     folder = os.path.join(CRATES, crate, 'specs')
     if crate not in OWN:
         return sorted(file[:-5] for file in os.listdir(folder) if file != 'Lib.antt')
-    needed, open_ones = set(), [OWN[crate][0]]
+    theorems = read(os.path.join(CRATES, crate, 'proofs', OWN[crate] + '.antt'))
+    needed, open_ones = set(), re.findall(r'Rattle\.%s\.specs\.(Worked\w*)\.' % crate, theorems)
     while open_ones:
         name = open_ones.pop()
         if name not in needed and os.path.exists(os.path.join(folder, name + '.antt')):
@@ -127,8 +127,8 @@ def copy_definitions(crates, name):
     items = re.findall(r'^(?://!.*|#!\[.*\]|(?:mod|pub use) (?:%s)\b[^;]*;)$' % '|'.join(modules or ['none']), library, re.M)
     if name in OWN:
         items = ['//! Definitions.', '#![tactic(auto)]'] + ['pub mod %s;' % module for module in modules]
-        shutil.copy(os.path.join(CRATES, name, 'proofs', OWN[name][1] + '.antt'), crate + '/proofs')
-        write(crate + '/proofs/Lib.antt', 'pub mod %s\n' % OWN[name][1])
+        shutil.copy(os.path.join(CRATES, name, 'proofs', OWN[name] + '.antt'), crate + '/proofs')
+        write(crate + '/proofs/Lib.antt', 'pub mod %s\n' % OWN[name])
     write(crate + '/src/lib.rt', '\n'.join(items) + '\n')
 
 
