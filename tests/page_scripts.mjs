@@ -37,6 +37,7 @@ function written(entries, indent) {
       skipped: () => `trigger ${entry.trigger}${seen(entry)} skipped: WHEN is ${entry.when}`,
       action: () => `${entry.constraint} ${entry.action} on ${entry.table} row ${entry.row}`,
       violation: () => `${entry.constraint}${entry.rule ? ` (${entry.rule})` : ""}: ${entry.table} row ${entry.row} ${row(entry.values)} ${REASONS[entry.reason](entry)}`,
+      savepoints: () => (entry.standing.length > 0 ? `savepoints that stand: ${entry.standing.join(", ")}` : "no savepoint stands"),
       note: () => entry.text,
     }[entry.kind] ?? (() => change(entry));
     return [indent + line()];
