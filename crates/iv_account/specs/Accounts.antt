@@ -81,7 +81,7 @@ with_equal_row rows (Some constraint) row = row ∷ equal_row_by rows constraint
 abbrev pub rows_of_violation : List StoredRow → Option Constraint → ℕ → List StoredRow
 rows_of_violation rows constraint number = elim (row_at rows number) [ Some row ↦ with_equal_row rows constraint row | None ↦ [] ]
 
--- so of a constraint that the schema has
+-- the same of a constraint that the schema has
 abbrev pub rows_of_fault : Schema → List StoredRow → Fault → List StoredRow
 rows_of_fault schema rows fault = rows_of_violation rows (slice_get schema.constraints fault.constraint) fault.row
 

@@ -20,4 +20,4 @@ account o = if o.is_told then Some o.session.account.entries else None
 abbrev pub lines_of : Format → ℕ → Connection → List ℕ
 lines_of format number o =
     outcome_lines (record { format = format; explain = o.session.account.asked }) number (executed o.statements o.executed)
-    o.session.state.schema o.outcome (account o)
+    o.session.state.schema o.session.state.limits o.outcome (account o)

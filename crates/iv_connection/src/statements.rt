@@ -213,6 +213,7 @@ fn lines(
         executed(connection),
         &connection.outcome,
         connection.session.catalogue(),
+        connection.session.limits(),
         account(connection),
     )?;
     Ok(writer.into_inner())

@@ -25,6 +25,7 @@ use Rattle.iv_catalogue.specs.declared.cause.Cause.TheVariants as cause
 use Rattle.iv_catalogue.specs.declared.cause.Refusal.{Refusal}
 use Rattle.iv_machine.specs.declared.answer.Answer.{Answer}
 use Rattle.iv_machine.specs.BeforeTriggers.{event_of_change}
+use Rattle.iv_machine.specs.Bounds.{Bounds}
 use Rattle.iv_account.specs.declared.entry.RowAction.{RowAction}
 use Rattle.iv_account.specs.declared.entry.TriggerView.{TriggerView}
 use Rattle.iv_account.specs.declared.entry.SkippedView.{SkippedView}
@@ -335,6 +336,6 @@ entries_text s outcome depth [] = []
 entries_text s outcome depth (entry ∷ entries) =
     entry_text s outcome depth entry entries ++ entries_text s outcome (depth_after depth entry) entries
 
--- The lines of the account of a statement with this outcome, with names as the catalogue has them after it.
-abbrev pub account_text : Schema → Result Answer Refusal → List Entry → List ℕ
-account_text s outcome entries = entries_text s outcome 0 entries ++ limit_line s entries outcome
+-- The lines of the account of a statement with this outcome, in a session with these limits, with names as the catalogue has them after it.
+abbrev pub account_text : Schema → Bounds → Result Answer Refusal → List Entry → List ℕ
+account_text s limits outcome entries = entries_text s outcome 0 entries ++ limit_line s limits entries outcome

@@ -22,6 +22,7 @@ use Rattle.iv_catalogue.specs.declared.cause.Cause.TheVariants as cause
 use Rattle.iv_catalogue.specs.declared.cause.Refusal.{Refusal}
 use Rattle.iv_machine.specs.declared.answer.Answer.{Answer}
 use Rattle.iv_machine.specs.BeforeTriggers.{event_of_change}
+use Rattle.iv_machine.specs.Bounds.{Bounds}
 use Rattle.iv_account.specs.declared.entry.RowAction.{RowAction}
 use Rattle.iv_account.specs.declared.entry.TriggerView.{TriggerView}
 use Rattle.iv_account.specs.declared.entry.SkippedView.{SkippedView}
@@ -119,7 +120,7 @@ cause_reason (cause.Restrict f) = codes "protected_key"
 cause_reason (cause.ActionConflict f) = codes "action_conflict"
 cause_reason _ = codes "missing_key"
 
--- so by the outcome of the statement
+-- the same by the outcome of the statement
 abbrev pub reference_reason : Result Answer Refusal → List ℕ
 reference_reason (Ok answer) = codes "missing_key"
 reference_reason (Err r) = cause_reason r.cause
@@ -142,7 +143,7 @@ equal_members other =
     because (codes "equal_key")
     ++ (member (codes "other_row") ++ (decimal other.number ++ (member (codes "other") ++ json_row other.values)))
 
--- so of the other rows; where there is none, a key has a null
+-- the same of the other rows; where there is none, a key has a null
 abbrev pub key_members : List StoredRow → List ℕ
 key_members [] = because (codes "null_in_key")
 key_members (other ∷ others) = equal_members other
@@ -168,7 +169,7 @@ rule_members s outcome row others table (rule.Unique nulls columns) = key_member
 rule_members s outcome row others table (rule.Check condition) = check_members (columns_of (slice_get s.tables table)) row.values condition
 rule_members s outcome row others table (rule.NotNull column) = null_members s table column
 
--- so of a constraint that is there
+-- the same of a constraint that is there
 abbrev pub constraint_rule_members : Schema → Result Answer Refusal → StoredRow → List StoredRow → Option Constraint → List ℕ
 constraint_rule_members s outcome row others (Some k) = rule_members s outcome row others k.table k.rule
 constraint_rule_members s outcome row others None = []
@@ -187,7 +188,7 @@ abbrev pub rule_refers_members : Schema → List Value → Rule → List ℕ
 rule_refers_members s values (rule.ForeignKey k) = because (codes "action_conflict") ++ referenced_members s values k
 rule_refers_members s values _ = []
 
--- so by a constraint that is there
+-- the same by a constraint that is there
 abbrev pub refers_members : Schema → List Value → Option Constraint → List ℕ
 refers_members s values (Some k) = rule_refers_members s values k.rule
 refers_members s values None = []
@@ -329,7 +330,7 @@ abbrev pub failure_entry : Schema → FailedEvaluation → List ℕ
 failure_entry s f =
     entry_key (codes "failure") ++ (part_members s f.part ++ (hand_members s f.row ++ (failure_members f.failure ++ codes "}")))
 
--- so of a constraint that the schema doesn't have
+-- the same of a constraint that the schema doesn't have
 abbrev pub described_members_of : Schema → Constraint → List ℕ
 described_members_of s k = member (codes "constraint") ++ (json_text k.name ++ asked_member s (Some k))
 
@@ -388,20 +389,26 @@ json_entries s outcome depth first (entry ∷ entries) =
     separator first entry
     ++ (json_entry s outcome entry entries ++ json_entries s outcome (depth_after depth entry) (begins entry) entries)
 
+-- these entries, in an array
+abbrev pub entry_list : Schema → Result Answer Refusal → List Entry → List ℕ
+entry_list s outcome entries = codes "[" ++ (json_entries s outcome 0 true entries ++ codes "]")
+
 -- a further entry, if there are some
 abbrev pub limit_separator : List Entry → List ℕ
 limit_separator [] = []
 limit_separator (entry ∷ entries) = codes ","
 
 -- which limit, and the way that led there
-abbrev pub limit_object : Schema → List Entry → Limit → List ℕ
-limit_object s entries limit = entry_key (codes "limit") ++ (member (codes "text") ++ (json_text (limit_text s entries limit) ++ codes "}"))
+abbrev pub limit_object : Schema → Bounds → List Entry → Limit → List ℕ
+limit_object s limits entries limit =
+    entry_key (codes "limit") ++ (member (codes "text") ++ (json_text (limit_text s limits entries limit) ++ codes "}"))
 
 -- the last entry of a statement that is refused for a limit
-abbrev pub limit_entry : Schema → List Entry → Result Answer Refusal → List ℕ
-limit_entry s entries (Ok a) = []
-limit_entry s entries (Err r) = elim (limit_of r.cause) [ Some limit ↦ limit_separator entries ++ limit_object s entries limit | None ↦ [] ]
+abbrev pub limit_entry : Schema → Bounds → List Entry → Result Answer Refusal → List ℕ
+limit_entry s limits entries (Ok a) = []
+limit_entry s limits entries (Err r) =
+    elim (limit_of r.cause) [ Some limit ↦ limit_separator entries ++ limit_object s limits entries limit | None ↦ [] ]
 
--- The account of a statement with this outcome, with names as the catalogue has them after it.
-abbrev pub json_account : Schema → Result Answer Refusal → List Entry → List ℕ
-json_account s outcome entries = codes "[" ++ (json_entries s outcome 0 true entries ++ (limit_entry s entries outcome ++ codes "]"))
+-- The account of a statement with this outcome, in a session with these limits, with names as the catalogue has them after it.
+abbrev pub json_account : Schema → Bounds → Result Answer Refusal → List Entry → List ℕ
+json_account s limits outcome entries = codes "[" ++ (json_entries s outcome 0 true entries ++ (limit_entry s limits entries outcome ++ codes "]"))

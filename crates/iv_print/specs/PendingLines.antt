@@ -11,7 +11,7 @@ use Rattle.iv_print.specs.Lines.{name_of}
 use Rattle.iv_print.specs.Rules.{described_text}
 use Rattle.iv_print.specs.AccountLines.{fault_rows_text, numbered_text}
 use Rattle.iv_print.specs.Json.{json_text, key, member}
-use Rattle.iv_print.specs.JsonAccounts.{asked_member, json_account, place_members}
+use Rattle.iv_print.specs.JsonAccounts.{asked_member, entry_list, place_members}
 
 -- ---- in words
 
@@ -43,7 +43,7 @@ pending_lines s came went = flat_map (came_line s) came ++ flat_map (went_line s
 -- those that came, if any did
 abbrev pub came_member : Schema → List Entry → List ℕ
 came_member s [] = []
-came_member s (entry ∷ entries) = member (codes "now_pending") ++ json_account s (Ok Done) (entry ∷ entries)
+came_member s (entry ∷ entries) = member (codes "now_pending") ++ entry_list s (Ok Done) (entry ∷ entries)
 
 abbrev pub row_of_members : Schema → Option Constraint → ℕ → List ℕ
 row_of_members s (Some k) row = place_members s k.table row

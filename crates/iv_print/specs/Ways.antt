@@ -4,7 +4,7 @@ use Rattle.iv_catalogue.specs.Catalogues.{Schema, trigger_numbered}
 use Rattle.iv_catalogue.specs.declared.cause.Cause.{Cause}
 use Rattle.iv_catalogue.specs.declared.cause.Cause.TheVariants as cause
 use Rattle.iv_catalogue.specs.declared.cause.Refusal.{Refusal}
-use Rattle.iv_machine.specs.Bounds.{most_changes_in_a_transaction}
+use Rattle.iv_machine.specs.Bounds.{Bounds, most_changes_in_a_transaction}
 use Rattle.iv_machine.specs.declared.answer.Answer.{Answer}
 use Rattle.iv_account.specs.declared.entry.Entry.{Entry}
 use Rattle.iv_account.specs.declared.entry.Entry.TheVariants.{Changed, Ran, Began, Ended}
@@ -109,23 +109,26 @@ limit_of _ = None
 abbrev pub depth_words : ℕ → List ℕ
 depth_words depth = (codes "depth " ++ decimal (counted depth 1)) ++ (codes ", and " ++ (decimal depth ++ codes " is the most"))
 
-abbrev pub used_words : List Entry → List ℕ
-used_words entries = codes "counted so far " ++ (decimal (used_from 1 entries) ++ codes ", and this or the next row changes are too many")
+-- Of what a statement may have, so much is counted.
+abbrev pub used_words : ℕ → List Entry → List ℕ
+used_words most entries =
+    (codes "counted so far " ++ decimal (used_from 1 entries))
+    ++ (codes " of " ++ (decimal most ++ codes ", and this or the next row changes are too many"))
 
 abbrev pub transaction_words : List ℕ
 transaction_words = codes "a transaction has at most " ++ (decimal most_changes_in_a_transaction ++ codes " row changes")
 
 -- which limit, and what was counted
-abbrev pub limit_words : List Entry → ℕ → Limit → List ℕ
-limit_words entries depth Depth = depth_words depth
-limit_words entries depth Changes = used_words entries
-limit_words entries depth Transaction = transaction_words
+abbrev pub limit_words : Bounds → List Entry → ℕ → Limit → List ℕ
+limit_words limits entries depth Depth = depth_words depth
+limit_words limits entries depth Changes = used_words limits.changes entries
+limit_words limits entries depth Transaction = transaction_words
 
 -- with the way that led there
-unfoldable pub limit_text : Schema → List Entry → Limit → List ℕ
-limit_text s entries limit = limit_words entries (depth_from 0 entries) limit ++ way_text s entries (depth_from 0 entries)
+unfoldable pub limit_text : Schema → Bounds → List Entry → Limit → List ℕ
+limit_text s limits entries limit = limit_words limits entries (depth_from 0 entries) limit ++ way_text s entries (depth_from 0 entries)
 
--- a line for a statement that is refused for a limit
-abbrev pub limit_line : Schema → List Entry → Result Answer Refusal → List ℕ
-limit_line s entries (Ok a) = []
-limit_line s entries (Err r) = elim (limit_of r.cause) [ Some limit ↦ codes "  " ++ (limit_text s entries limit ++ codes "\n") | None ↦ [] ]
+-- a line for a statement that is refused for a limit of its session or of all
+abbrev pub limit_line : Schema → Bounds → List Entry → Result Answer Refusal → List ℕ
+limit_line s limits entries (Ok a) = []
+limit_line s limits entries (Err r) = elim (limit_of r.cause) [ Some limit ↦ codes "  " ++ (limit_text s limits entries limit ++ codes "\n") | None ↦ [] ]

@@ -30,6 +30,7 @@ use Rattle.iv_catalogue.specs.declared.constraint.Constraint.{Constraint}
 use Rattle.iv_catalogue.specs.declared.constraint.Rule.{Rule}
 use Rattle.iv_catalogue.specs.declared.constraint.Rule.TheVariants as rule
 use Rattle.iv_catalogue.specs.declared.plan.Trigger.{Trigger}
+use Rattle.iv_machine.specs.Bounds.{Bounds}
 use Rattle.iv_machine.specs.declared.answer.Answer.{Answer}
 use Rattle.iv_machine.specs.declared.answer.Answer.TheVariants as answer
 use Rattle.iv_account.specs.declared.entry.RowAction.{RowAction}
@@ -121,18 +122,22 @@ refused why = Err (record { cause = why; trigger = None })
 abbrev pub fault : ℕ → Fault
 fault id = record { constraint = id; row = 2 }
 
+-- 64 levels, and 4 row changes of a statement
+abbrev pub limits : Bounds
+limits = record { depth = 64; changes = 4 }
+
 -- the lines of a statement that is accepted
 abbrev pub accepted_text : List Entry → List ℕ
-accepted_text entries = account_text schema (Ok (answer.Changed 1)) entries
+accepted_text entries = account_text schema limits (Ok (answer.Changed 1)) entries
 
 -- the line of a violation of this constraint by these rows
 abbrev pub violation_text : ℕ → List StoredRow → List ℕ
-violation_text id rows = account_text schema (refused (cause.Violation (fault id))) (Faulted (fault id) rows ∷ [])
+violation_text id rows = account_text schema limits (refused (cause.Violation (fault id))) (Faulted (fault id) rows ∷ [])
 
 -- a row that refers to the key 7, where the statement is refused for this cause
 abbrev pub reference_fault_text : Result Answer Refusal → List ℕ
 reference_fault_text outcome =
-    account_text schema outcome (Faulted (fault 1) (stored 1 2 (int 7 ∷ Null ∷ []) ∷ []) ∷ [])
+    account_text schema limits outcome (Faulted (fault 1) (stored 1 2 (int 7 ∷ Null ∷ []) ∷ []) ∷ [])
 
 -- ---- lines
 
@@ -172,23 +177,23 @@ pub record WorkedAccounts : Type 0 where
       ∷ Began 3 ∷ Ended ∷ ran_on 1 None None [] ∷ [])
       ≡ codes "  trigger COUNTED\n  statement 1\n    insert P row 4 (4)\n    trigger COUNTED\n      saw insert P row 4 (4)\n"
       ++ codes "    statement 2\n      C_PARENT CASCADE on C row 2\n  statement 3 changes nothing\n  trigger COUNTED\n"
-  pub depth_is_the_limit : account_text schema (refused (cause.DepthLimit 2))
+  pub depth_is_the_limit : account_text schema limits (refused (cause.DepthLimit 2))
       (ran_on 1 None None [] ∷ Began 1 ∷ Ended ∷ ran_on 2 (Some (int 1 ∷ [])) None [] ∷ Began 2 ∷ Changed (inserted 0 4 (int 4 ∷ []) ∷ []) ∷ ran_on 1 None None []
       ∷ Began 3 ∷ [])
       ≡ codes "  trigger COUNTED\n  statement 1 changes nothing\n  trigger EACH OLD (1)\n  statement 2\n    insert P row 4 (4)\n    trigger COUNTED\n    statement 3\n"
       ++ codes "  depth 3, and 2 is the most: EACH statement 2, COUNTED statement 3\n"
-  pub changes_are_the_limit : account_text schema (refused cause.TooManyChanges)
+  pub changes_are_the_limit : account_text schema limits (refused cause.TooManyChanges)
       (Changed (inserted 0 1 (int 1 ∷ []) ∷ inserted 0 2 (int 2 ∷ []) ∷ []) ∷ [])
-      ≡ codes "  insert P row 1 (1)\n  insert P row 2 (2)\n  counted so far 3, and this or the next row changes are too many\n"
-  pub transaction_is_the_limit : account_text schema (refused cause.TransactionTooLarge) [] ≡ codes "  a transaction has at most 1048576 row changes\n"
+      ≡ codes "  insert P row 1 (1)\n  insert P row 2 (2)\n  counted so far 3 of 4, and this or the next row changes are too many\n"
+  pub transaction_is_the_limit : account_text schema limits (refused cause.TransactionTooLarge) [] ≡ codes "  a transaction has at most 1048576 row changes\n"
   -- the first three and the last of five
-  pub long_way : account_text schema (refused (cause.DepthLimit 1))
+  pub long_way : account_text schema limits (refused (cause.DepthLimit 1))
       (ran_on 1 None None [] ∷ Began 1 ∷ ran_on 1 None None [] ∷ Began 2 ∷ ran_on 1 None None [] ∷ Began 3 ∷ ran_on 1 None None [] ∷ Began 4
       ∷ ran_on 1 None None [] ∷ Began 5 ∷ [])
       ≡ codes "  trigger COUNTED\n  statement 1\n    trigger COUNTED\n    statement 2\n      trigger COUNTED\n      statement 3\n"
       ++ codes "        trigger COUNTED\n        statement 4\n          trigger COUNTED\n          statement 5\n"
       ++ codes "  depth 6, and 5 is the most: COUNTED statement 1, COUNTED statement 2, COUNTED statement 3, .., COUNTED statement 5\n"
-  pub fault_in_a_body : account_text schema (refused (cause.Violation (fault 0)))
+  pub fault_in_a_body : account_text schema limits (refused (cause.Violation (fault 0)))
       (Began 1 ∷ Faulted (fault 0) (stored 0 2 (int 1 ∷ []) ∷ stored 0 1 (int 1 ∷ []) ∷ []) ∷ [])
       ≡ codes "  statement 1\n    P_KEY: P row 2 (1) has the key of row 1 (1)\n"
   pub key_is_missing : reference_fault_text (refused (cause.Violation (fault 1)))
@@ -200,11 +205,11 @@ pub record WorkedAccounts : Type 0 where
   pub key_is_protected : reference_fault_text (refused (cause.Restrict (fault 1)))
       ≡ codes "  C_PARENT: C row 2 (7, NULL) refers to P (7), which RESTRICT protects\n"
   -- two foreign keys set a column of the row to different values: the one that is named first is the later one
-  pub actions_disagree : account_text schema (refused (cause.ActionConflict (fault 5)))
+  pub actions_disagree : account_text schema limits (refused (cause.ActionConflict (fault 5)))
       (Disagreed (fault 5) (stored 1 2 (int 7 ∷ int 8 ∷ []) ∷ [])
       (record { earlier = 1; column = 0; earlier_value = int 9; value = Null }) ∷ [])
       ≡ codes "  C_BOTH: C row 2 (7, 8) refers to P (8, 7), and C_PARENT sets X to 9, where C_BOTH sets it to NULL\n"
-  pub actions_disagree_about_a_text : account_text schema (refused (cause.ActionConflict (fault 5)))
+  pub actions_disagree_about_a_text : account_text schema limits (refused (cause.ActionConflict (fault 5)))
       (Disagreed (fault 5) (stored 1 2 (int 7 ∷ int 8 ∷ []) ∷ [])
       (record { earlier = 1; column = 1; earlier_value = Text (codes "it's"); value = int 4 }) ∷ [])
       ≡ codes "  C_BOTH: C row 2 (7, 8) refers to P (8, 7), and C_PARENT sets M to 'it''s', where C_BOTH sets it to 4\n"

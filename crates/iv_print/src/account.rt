@@ -26,7 +26,7 @@ use iv_catalogue::{
 };
 use iv_expr::{Change, Row, StoredRow, TableId};
 use iv_key::{Key, value_at};
-use iv_machine::Answer;
+use iv_machine::{Answer, Limits};
 use iv_syntax::ReferentialAction;
 use iv_value::{Truth, Value, ValueRef};
 
@@ -663,18 +663,19 @@ fn write_entries<W: Sink>(
     Ok(())
 }
 
-/// Writes the lines of the account of a statement with this outcome, with the names of tables, columns, constraints
-/// and triggers as the catalogue has them. It takes no memory.
+/// Writes the lines of the account of a statement with this outcome, in a session with these limits, with the names of
+/// tables, columns, constraints and triggers as the catalogue has them. It takes no memory.
 #[tactic(auto, using(crate::proofs::WriteLemmas::writes_then))]
 pub fn write_account<W: Sink>(
     sink: &mut W,
     catalogue: &Catalogue,
+    limits: Limits,
     outcome: &Result<Answer, Refusal>,
     entries: &[Entry],
 ) -> Result<(), DeviceFault>
     ensures { Writes (W.state sink.old) (W.state sink.new) result
-        (account_text catalogue.now outcome.now entries.now) }
+        (account_text catalogue.now limits outcome.now entries.now) }
 {
     write_entries(sink, catalogue, outcome, entries)?;
-    write_limit_line(sink, catalogue, entries, outcome)
+    write_limit_line(sink, catalogue, limits, entries, outcome)
 }

@@ -7,7 +7,7 @@ ghost use Rattle.iv_key.specs.Keys.{key_of};
 ghost use Rattle.iv_print.specs.Writing.{Writes};
 ghost use Rattle.iv_print.specs.AccountLines.{column_name_in, table_name};
 ghost use Rattle.iv_print.specs.Json.{further_value, json_text, json_values};
-ghost use Rattle.iv_print.specs.JsonAccounts.{acted_entry, acting_members, action_name, because, began_entry, begins, changed_entry, changes_nothing, constraint_rule_members, ends, entry_key, equal_members, event_member, event_name, further_action, further_change, json_account, json_action, json_actions, json_change, json_changes, json_entries, json_entry, key_members, nothing_member, null_members, place_members, ran_entry, reference_members, reference_reason, referenced_members, rule_members, saw_member, seen_members, skipped_entry, skipped_members, separator, side_member, side_members, violation_entry, violation_members};
+ghost use Rattle.iv_print.specs.JsonAccounts.{acted_entry, because, began_entry, begins, changed_entry, changes_nothing, constraint_rule_members, ends, entry_key, entry_list, equal_members, event_member, event_name, further_change, json_account, json_change, json_changes, json_entries, json_entry, key_members, nothing_member, null_members, place_members, ran_entry, reference_members, reference_reason, referenced_members, rule_members, saw_member, seen_members, skipped_entry, skipped_members, separator, side_member, side_members, violation_entry, violation_members};
 ghost use Rattle.iv_machine.specs.BeforeTriggers.{event_of_change};
 
 use crate::account::{ends_next, truth_name};
@@ -17,6 +17,7 @@ use crate::json::{
     write_borrowed, write_json_text, write_key, write_member, write_name, write_number_member,
     write_row, write_text_member, write_trigger_name,
 };
+use crate::json_action::write_actions;
 use crate::json_addition::write_not_added;
 use crate::json_conflict::write_conflict;
 use crate::json_failure::write_failure;
@@ -26,14 +27,13 @@ use crate::json_way::write_limit_entry;
 use crate::names::{column_in, table_in};
 use crate::way::depth_after;
 use crate::write::{write_all, write_nothing, write_number};
-use iv_account::{Entry, RowAction, SkippedView, TriggerView};
+use iv_account::{Entry, SkippedView, TriggerView};
 use iv_catalogue::{
     Catalogue, Cause, Constraint, ConstraintId, ForeignKey, Refusal, Rule, TriggerId,
 };
 use iv_expr::{Change, Row, StoredRow, TableId};
 use iv_key::{Key, value_at};
-use iv_machine::Answer;
-use iv_syntax::ReferentialAction;
+use iv_machine::{Answer, Limits};
 use iv_value::{Value, ValueRef};
 
 // ---- rows and changes
@@ -174,99 +174,6 @@ fn write_changes<W: Sink>(
         [change, more @ ..] => {
             write_change(sink, catalogue, change)?;
             write_more_changes(sink, catalogue, more)
-        }
-    }
-}
-
-// ---- referential actions
-
-fn action_name(action: ReferentialAction) -> &'static str
-    ensures { result.now ≡ action_name action }
-{
-    match action {
-        ReferentialAction::NoAction => "NO ACTION",
-        ReferentialAction::Restrict => "RESTRICT",
-        ReferentialAction::Cascade => "CASCADE",
-        ReferentialAction::SetNull => "SET NULL",
-        ReferentialAction::SetDefault => "SET DEFAULT",
-    }
-}
-
-// The foreign key that acts, and its action.
-#[tactic(auto, using(crate::proofs::WriteLemmas::writes_then))]
-fn write_acting<W: Sink>(
-    sink: &mut W,
-    catalogue: &Catalogue,
-    acted: &RowAction,
-) -> Result<(), DeviceFault>
-    ensures { Writes (W.state sink.old) (W.state sink.new) result
-        (acting_members catalogue.now acted.now) }
-{
-    write_key(sink, b"constraint")?;
-    write_name(sink, catalogue.constraints(), acted.constraint)?;
-    write_text_member(sink, b"action", action_name(acted.action).as_bytes())
-}
-
-#[tactic(auto, using(crate::proofs::WriteLemmas::writes_then))]
-fn write_action<W: Sink>(
-    sink: &mut W,
-    catalogue: &Catalogue,
-    acted: &RowAction,
-) -> Result<(), DeviceFault>
-    ensures { Writes (W.state sink.old) (W.state sink.new) result
-        (json_action catalogue.now acted.now) }
-{
-    write_all(sink, b"{")?;
-    write_acting(sink, catalogue, acted)?;
-    write_place(sink, catalogue, acted.table, acted.row)?;
-    write_all(sink, b"}")
-}
-
-#[tactic(auto, using(crate::proofs::WriteLemmas::writes_then))]
-fn write_further_action<W: Sink>(
-    sink: &mut W,
-    catalogue: &Catalogue,
-    acted: &RowAction,
-) -> Result<(), DeviceFault>
-    ensures { Writes (W.state sink.old) (W.state sink.new) result
-        (further_action catalogue.now acted.now) }
-{
-    write_all(sink, b",")?;
-    write_action(sink, catalogue, acted)
-}
-
-// Further actions, each after a comma.
-#[tactic(auto, using(crate::proofs::WriteLemmas::writes_then))]
-fn write_more_actions<W: Sink>(
-    sink: &mut W,
-    catalogue: &Catalogue,
-    actions: &[RowAction],
-) -> Result<(), DeviceFault>
-    ensures { Writes (W.state sink.old) (W.state sink.new) result
-        (flat_map (further_action catalogue.now) actions.now) }
-{
-    let mut rest = actions;
-    while let Some((acted, others)) = rest.split_first() {
-        write_further_action(sink, catalogue, acted)?;
-        rest = others;
-    }
-    Ok(())
-}
-
-#[tactic(auto, using(crate::proofs::WriteLemmas::writes_then))]
-fn write_actions<W: Sink>(
-    sink: &mut W,
-    catalogue: &Catalogue,
-    actions: &[RowAction],
-) -> Result<(), DeviceFault>
-    ensures { Writes (W.state sink.old) (W.state sink.new) result
-        (json_actions catalogue.now actions.now) }
-{
-    match actions {
-        [] => write_nothing(sink),
-        [acted, more @ ..] => {
-            write_action(sink, catalogue, acted)?;
-            write_more_actions(sink, catalogue, more)
         }
     }
 }
@@ -784,21 +691,38 @@ fn write_entries<W: Sink>(
     write_ends(sink, depth)
 }
 
-/// Writes the account of a statement with this outcome as a JSON array, with the names of tables, columns, constraints
-/// and triggers as the catalogue has them. The entries of a nested statement are an array in the entry with which it
-/// begins. It takes no memory.
+/// Entries in an array, with no entry of a limit behind them.
+#[tactic(auto, using(crate::proofs::WriteLemmas::writes_then))]
+pub(crate) fn write_entry_list<W: Sink>(
+    sink: &mut W,
+    catalogue: &Catalogue,
+    outcome: &Result<Answer, Refusal>,
+    listed: &[Entry],
+) -> Result<(), DeviceFault>
+    ensures { Writes (W.state sink.old) (W.state sink.new) result
+        (entry_list catalogue.now outcome.now listed.now) }
+{
+    write_all(sink, b"[")?;
+    write_entries(sink, catalogue, outcome, listed)?;
+    write_all(sink, b"]")
+}
+
+/// Writes the account of a statement with this outcome, in a session with these limits, as a JSON array, with the names
+/// of tables, columns, constraints and triggers as the catalogue has them. The entries of a nested statement are an array
+/// in the entry with which it begins. It takes no memory.
 #[tactic(auto, using(crate::proofs::WriteLemmas::writes_then))]
 pub fn write_json_account<W: Sink>(
     sink: &mut W,
     catalogue: &Catalogue,
+    limits: Limits,
     outcome: &Result<Answer, Refusal>,
     entries: &[Entry],
 ) -> Result<(), DeviceFault>
     ensures { Writes (W.state sink.old) (W.state sink.new) result
-        (json_account catalogue.now outcome.now entries.now) }
+        (json_account catalogue.now limits outcome.now entries.now) }
 {
     write_all(sink, b"[")?;
     write_entries(sink, catalogue, outcome, entries)?;
-    write_limit_entry(sink, catalogue, entries, outcome)?;
+    write_limit_entry(sink, catalogue, limits, entries, outcome)?;
     write_all(sink, b"]")
 }

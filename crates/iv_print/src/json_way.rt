@@ -13,21 +13,22 @@ use crate::way::{Limit, limit_of, tell_limit};
 use crate::write::{write_all, write_nothing};
 use iv_account::Entry;
 use iv_catalogue::{Catalogue, Refusal};
-use iv_machine::Answer;
+use iv_machine::{Answer, Limits};
 
 // The words between their quotes.
 #[tactic(auto, using(crate::proofs::WriteLemmas::writes_then), unfolding(crate::specs::Spelled::spelled, crate::specs::Json::json_text))]
 fn write_text<W: Sink>(
     sink: &mut W,
     catalogue: &Catalogue,
+    limits: Limits,
     entries: &[Entry],
     limit: Limit,
 ) -> Result<(), DeviceFault>
     ensures { Writes (W.state sink.old) (W.state sink.new) result
-        (json_text (limit_text catalogue.now entries.now limit)) }
+        (json_text (limit_text catalogue.now limits entries.now limit)) }
 {
     write_all(sink, b"\"")?;
-    tell_limit(sink, Format::Json, catalogue, entries, limit)?;
+    tell_limit(sink, Format::Json, catalogue, limits, entries, limit)?;
     write_all(sink, b"\"")
 }
 
@@ -35,15 +36,16 @@ fn write_text<W: Sink>(
 fn write_object<W: Sink>(
     sink: &mut W,
     catalogue: &Catalogue,
+    limits: Limits,
     entries: &[Entry],
     limit: Limit,
 ) -> Result<(), DeviceFault>
     ensures { Writes (W.state sink.old) (W.state sink.new) result
-        (limit_object catalogue.now entries.now limit) }
+        (limit_object catalogue.now limits entries.now limit) }
 {
     write_entry_key(sink, b"limit")?;
     write_member(sink, b"text")?;
-    write_text(sink, catalogue, entries, limit)?;
+    write_text(sink, catalogue, limits, entries, limit)?;
     write_all(sink, b"}")
 }
 
@@ -60,27 +62,29 @@ fn separator(entries: &[Entry]) -> &'static [u8]
 fn write_separated<W: Sink>(
     sink: &mut W,
     catalogue: &Catalogue,
+    limits: Limits,
     entries: &[Entry],
     limit: Limit,
 ) -> Result<(), DeviceFault>
     ensures { Writes (W.state sink.old) (W.state sink.new) result
-        (limit_separator entries.now ++ limit_object catalogue.now entries.now limit) }
+        (limit_separator entries.now ++ limit_object catalogue.now limits entries.now limit) }
 {
     write_all(sink, separator(entries))?;
-    write_object(sink, catalogue, entries, limit)
+    write_object(sink, catalogue, limits, entries, limit)
 }
 
 fn write_entry_of<W: Sink>(
     sink: &mut W,
     catalogue: &Catalogue,
+    limits: Limits,
     entries: &[Entry],
     limit: Option<Limit>,
 ) -> Result<(), DeviceFault>
     ensures { Writes (W.state sink.old) (W.state sink.new) result
-        (elim limit [ Some l ↦ limit_separator entries.now ++ limit_object catalogue.now entries.now l | None ↦ [] ]) }
+        (elim limit [ Some l ↦ limit_separator entries.now ++ limit_object catalogue.now limits entries.now l | None ↦ [] ]) }
 {
     match limit {
-        Some(limit) => write_separated(sink, catalogue, entries, limit),
+        Some(limit) => write_separated(sink, catalogue, limits, entries, limit),
         None => write_nothing(sink),
     }
 }
@@ -89,14 +93,15 @@ fn write_entry_of<W: Sink>(
 pub(crate) fn write_limit_entry<W: Sink>(
     sink: &mut W,
     catalogue: &Catalogue,
+    limits: Limits,
     entries: &[Entry],
     outcome: &Result<Answer, Refusal>,
 ) -> Result<(), DeviceFault>
     ensures { Writes (W.state sink.old) (W.state sink.new) result
-        (limit_entry catalogue.now entries.now outcome.now) }
+        (limit_entry catalogue.now limits entries.now outcome.now) }
 {
     match outcome {
         Ok(_) => write_nothing(sink),
-        Err(refusal) => write_entry_of(sink, catalogue, entries, limit_of(&refusal.cause)),
+        Err(refusal) => write_entry_of(sink, catalogue, limits, entries, limit_of(&refusal.cause)),
     }
 }

@@ -13,6 +13,7 @@ mod failure;
 mod format;
 mod json;
 mod json_account;
+mod json_action;
 mod json_addition;
 mod json_conflict;
 mod json_failure;

@@ -6,14 +6,14 @@ ghost use Rattle.iv_machine.specs.declared.answer.Answer.TheVariants.{Done};
 ghost use Rattle.iv_print.specs.Rules.{described_text};
 ghost use Rattle.iv_print.specs.AccountLines.{fault_rows_text};
 ghost use Rattle.iv_print.specs.Json.{member};
-ghost use Rattle.iv_print.specs.JsonAccounts.{json_account};
+ghost use Rattle.iv_print.specs.JsonAccounts.{entry_list};
 ghost use Rattle.iv_print.specs.PendingLines.{came_line, came_member, further_went, pending_lines, pending_members, row_of_members, row_of_text, went_line, went_member, went_object, went_objects};
 ghost use Rattle.iv_print.specs.Writing.{Writes};
 
 use crate::account::{write_fault_rows, write_numbered};
 use crate::device::{DeviceFault, Sink};
 use crate::json::{write_key, write_member, write_name as write_json_name};
-use crate::json_account::{write_json_account, write_place};
+use crate::json_account::{write_entry_list, write_place};
 use crate::json_rule::write_asked;
 use crate::rule::write_described;
 use crate::write::{write_all, write_nothing};
@@ -176,10 +176,10 @@ fn write_entries<W: Sink>(
     entries: &[Entry],
 ) -> Result<(), DeviceFault>
     ensures { Writes (W.state sink.old) (W.state sink.new) result
-        (json_account catalogue.now (Ok Done) entries.now) }
+        (entry_list catalogue.now (Ok Done) entries.now) }
 {
     let accepted: Result<Answer, Refusal> = Ok(Answer::Done);
-    let written = write_json_account(sink, catalogue, &accepted, entries);
+    let written = write_entry_list(sink, catalogue, &accepted, entries);
     drop(accepted);
     written
 }

@@ -15,7 +15,7 @@ use crate::write::{write_all, write_nothing};
 use itoa::Buffer;
 use iv_account::Entry;
 use iv_catalogue::{Catalogue, Cause, Refusal, TriggerId};
-use iv_machine::{Answer, MOST_CHANGES_IN_A_TRANSACTION};
+use iv_machine::{Answer, Limits, MOST_CHANGES_IN_A_TRANSACTION};
 
 /// A data statement of a trigger's body that has begun, by its place there.
 #[derive(Clone, Copy, Debug, PartialEq, Eq)]
@@ -341,15 +341,28 @@ fn used_so_far(entries: &[Entry]) -> u128
     u128::from(used(entries))
 }
 
-fn tell_used<W: Sink>(writer: &mut W, format: Format, entries: &[Entry]) -> Result<(), DeviceFault>
-    ensures { Writes (W.state writer.old) (W.state writer.new) result
-        (spelled format (used_words entries.now)) }
+fn most_in_a_statement(limits: Limits) -> u128
+    ensures { result ≡ limits.changes }
 {
-    tell_number_between(
+    u128::from(limits.changes())
+}
+
+fn tell_used<W: Sink>(
+    writer: &mut W,
+    format: Format,
+    limits: Limits,
+    entries: &[Entry],
+) -> Result<(), DeviceFault>
+    ensures { Writes (W.state writer.old) (W.state writer.new) result
+        (spelled format (used_words limits.changes entries.now)) }
+{
+    tell_most(
         writer,
         format,
         b"counted so far ",
         used_so_far(entries),
+        b" of ",
+        most_in_a_statement(limits),
         b", and this or the next row changes are too many",
     )
 }
@@ -376,16 +389,17 @@ fn tell_transaction<W: Sink>(writer: &mut W, format: Format) -> Result<(), Devic
 fn tell_words<W: Sink>(
     writer: &mut W,
     format: Format,
+    limits: Limits,
     entries: &[Entry],
     depth: usize,
     limit: Limit,
 ) -> Result<(), DeviceFault>
     ensures { Writes (W.state writer.old) (W.state writer.new) result
-        (spelled format (limit_words entries.now depth limit)) }
+        (spelled format (limit_words limits entries.now depth limit)) }
 {
     match limit {
         Limit::Depth => tell_depth(writer, format, depth),
-        Limit::Changes => tell_used(writer, format, entries),
+        Limit::Changes => tell_used(writer, format, limits, entries),
         Limit::Transaction => tell_transaction(writer, format),
     }
 }
@@ -396,14 +410,15 @@ pub(crate) fn tell_limit<W: Sink>(
     writer: &mut W,
     format: Format,
     catalogue: &Catalogue,
+    limits: Limits,
     entries: &[Entry],
     limit: Limit,
 ) -> Result<(), DeviceFault>
     ensures { Writes (W.state writer.old) (W.state writer.new) result
-        (spelled format (limit_text catalogue.now entries.now limit)) }
+        (spelled format (limit_text catalogue.now limits entries.now limit)) }
 {
     let depth = depth_of(entries);
-    tell_words(writer, format, entries, depth, limit)?;
+    tell_words(writer, format, limits, entries, depth, limit)?;
     tell_way(writer, format, catalogue, entries, depth)
 }
 
@@ -413,41 +428,44 @@ pub(crate) fn tell_limit<W: Sink>(
 fn write_limit<W: Sink>(
     sink: &mut W,
     catalogue: &Catalogue,
+    limits: Limits,
     entries: &[Entry],
     limit: Limit,
 ) -> Result<(), DeviceFault>
     ensures { Writes (W.state sink.old) (W.state sink.new) result
-        (limit_text catalogue.now entries.now limit) }
+        (limit_text catalogue.now limits entries.now limit) }
 {
-    tell_limit(sink, Format::Words, catalogue, entries, limit)
+    tell_limit(sink, Format::Words, catalogue, limits, entries, limit)
 }
 
 #[tactic(auto, using(crate::proofs::WriteLemmas::writes_then))]
 fn write_line<W: Sink>(
     sink: &mut W,
     catalogue: &Catalogue,
+    limits: Limits,
     entries: &[Entry],
     limit: Limit,
 ) -> Result<(), DeviceFault>
     ensures { Writes (W.state sink.old) (W.state sink.new) result
-        (codes "  " ++ (limit_text catalogue.now entries.now limit ++ codes "\n")) }
+        (codes "  " ++ (limit_text catalogue.now limits entries.now limit ++ codes "\n")) }
 {
     write_all(sink, b"  ")?;
-    write_limit(sink, catalogue, entries, limit)?;
+    write_limit(sink, catalogue, limits, entries, limit)?;
     write_all(sink, b"\n")
 }
 
 fn write_line_of<W: Sink>(
     sink: &mut W,
     catalogue: &Catalogue,
+    limits: Limits,
     entries: &[Entry],
     limit: Option<Limit>,
 ) -> Result<(), DeviceFault>
     ensures { Writes (W.state sink.old) (W.state sink.new) result
-        (elim limit [ Some l ↦ codes "  " ++ (limit_text catalogue.now entries.now l ++ codes "\n") | None ↦ [] ]) }
+        (elim limit [ Some l ↦ codes "  " ++ (limit_text catalogue.now limits entries.now l ++ codes "\n") | None ↦ [] ]) }
 {
     match limit {
-        Some(limit) => write_line(sink, catalogue, entries, limit),
+        Some(limit) => write_line(sink, catalogue, limits, entries, limit),
         None => write_nothing(sink),
     }
 }
@@ -456,14 +474,15 @@ fn write_line_of<W: Sink>(
 pub(crate) fn write_limit_line<W: Sink>(
     sink: &mut W,
     catalogue: &Catalogue,
+    limits: Limits,
     entries: &[Entry],
     outcome: &Result<Answer, Refusal>,
 ) -> Result<(), DeviceFault>
     ensures { Writes (W.state sink.old) (W.state sink.new) result
-        (limit_line catalogue.now entries.now outcome.now) }
+        (limit_line catalogue.now limits entries.now outcome.now) }
 {
     match outcome {
         Ok(_) => write_nothing(sink),
-        Err(refusal) => write_line_of(sink, catalogue, entries, limit_of(&refusal.cause)),
+        Err(refusal) => write_line_of(sink, catalogue, limits, entries, limit_of(&refusal.cause)),
     }
 }

@@ -51,6 +51,10 @@ impl<X: Executor + Drop> Executor for Lasting<X> {
         self.database.is_untold()
     }
 
+    fn limits(&self) -> Limits {
+        self.database.limits()
+    }
+
     fn catalogue(&self) -> &Catalogue {
         self.database.catalogue()
     }

@@ -216,7 +216,7 @@ pub ran_one : (sure_back : Bool) (style : Style) (number : ℕ) (old new : State
     (tally tally_then : Tally) (before after : SinkState)
     → Executes old st r new → (never_refused sure_back old st ≡ true → is_memory r ≡ false) → Tells style.explain old st r account
     → AreNews (style.explain && is_open new) (is_memory r || account.untold) listed new n
-    → Writes before after (Ok tt) (lines_in style.format style.explain style.explain number (Some st) new.schema r account.entries n.came.entries n.went.items)
+    → Writes before after (Ok tt) (lines_in style.format style.explain style.explain number (Some st) new.schema new.limits r account.entries n.came.entries n.went.items)
     → tally_then.accepted ≡ tally.accepted + accepted_of r → tally_then.refused ≡ tally.refused + refused_of r → tally_then.memory_refused ≡ tally.memory_refused + (if is_memory r then 1 else 0)
     → tally_then.untold ≡ tally.untold + (if account.untold || n.is_refused then 1 else 0)
     → RanOne sure_back style number old new listed n.listed.items st tally tally_then before after
@@ -233,7 +233,7 @@ ran_one sure_back style number old new listed st r account n tally tally_then be
       memory_refusals_are = s ∙ ap (λ k. tally.memory_refused + k) d.counted;
       untold_are = u ∙ ap (λ k. tally.untold + k) d.untold_counted;
       appended = subst (Appends before.contents after.contents)
-          (λ i. lines_in style.format style.explain style.explain number (Some st) (d.state_is i).schema (d.answer_is i) (d.told_is i) (news i).came (news i).went) w.0;
+          (λ i. lines_in style.format style.explain style.explain number (Some st) (d.state_is i).schema (d.state_is i).limits (d.answer_is i) (d.told_is i) (news i).came (news i).went) w.0;
       works = w.1;
     }
 

@@ -11,6 +11,7 @@ use Rattle.iv_parse.specs.declared.parser.SyntaxFault.{SyntaxFault}
 use Rattle.iv_catalogue.specs.Catalogues.{Schema}
 use Rattle.iv_catalogue.specs.declared.cause.Fault.{Fault}
 use Rattle.iv_catalogue.specs.declared.cause.Refusal.{Refusal}
+use Rattle.iv_machine.specs.Bounds.{Bounds}
 use Rattle.iv_machine.specs.declared.answer.Answer.{Answer}
 use Rattle.iv_account.specs.declared.entry.Entry.{Entry}
 use Rattle.iv_print.specs.Json.{json_text, key, kind_member, member, outcome_members}
@@ -28,9 +29,9 @@ abbrev pub number_key : ℕ → List ℕ
 number_key n = codes "{" ++ (key (codes "number") ++ decimal n)
 
 -- the account, where it is told
-abbrev pub account_member : Bool → Schema → Result Answer Refusal → List Entry → List ℕ
-account_member true s r told = member (codes "account") ++ json_account s r told
-account_member false s r told = []
+abbrev pub account_member : Bool → Schema → Bounds → Result Answer Refusal → List Entry → List ℕ
+account_member true s limits r told = member (codes "account") ++ json_account s limits r told
+account_member false s limits r told = []
 
 -- The member of the name or the reason of a refusal, where accounts are asked for and the statement is known.
 abbrev pub about_member : Bool → Schema → Option Statement → Result Answer Refusal → List ℕ
@@ -44,12 +45,13 @@ columns_member_of _ s st _ = []
 
 -- The line of the n-th statement: its outcome, the columns of a query, the name or the reason of its refusal, its account, and the violations
 -- of deferred constraints that came and went.
-abbrev pub json_line : Bool → Bool → ℕ → Option Statement → Schema → Result Answer Refusal → List Entry → List Entry → List Fault → List ℕ
-json_line asked is_told n st s r told came went =
+abbrev pub json_line :
+    Bool → Bool → ℕ → Option Statement → Schema → Bounds → Result Answer Refusal → List Entry → List Entry → List Fault → List ℕ
+json_line asked is_told n st s limits r told came went =
     number_key n
     ++ (outcome_members s r
     ++ (columns_member_of asked s st r
-    ++ (about_member asked s st r ++ (account_member is_told s r told ++ (pending_members s came went ++ codes "}\n")))))
+    ++ (about_member asked s st r ++ (account_member is_told s limits r told ++ (pending_members s came went ++ codes "}\n")))))
 
 -- the line and the column of a byte of a text
 abbrev pub place_members : Place → List ℕ

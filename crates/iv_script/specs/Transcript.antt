@@ -140,27 +140,29 @@ columns_line_of true s (Some st) (Ok a) = columns_line s st
 columns_line_of _ s st _ = []
 
 -- The lines of the account, where it is told.
-abbrev pub account_lines_of : Bool → Schema → Result Answer Refusal → List Entry → List ℕ
-account_lines_of true s r told = account_text s r told
-account_lines_of false s r told = []
+abbrev pub account_lines_of : Bool → Schema → Bounds → Result Answer Refusal → List Entry → List ℕ
+account_lines_of true s limits r told = account_text s limits r told
+account_lines_of false s limits r told = []
 
 -- In this format: where accounts are asked for, with the columns, or the name or the reason of a refusal; and where the account is told, with
 -- its lines.
-abbrev pub lines_in : Format → Bool → Bool → ℕ → Option Statement → Schema → Result Answer Refusal → List Entry → List Entry → List Fault → List ℕ
-lines_in Words asked is_told n st s r told came went =
+abbrev pub lines_in :
+    Format → Bool → Bool → ℕ → Option Statement → Schema → Bounds → Result Answer Refusal → List Entry → List Entry → List Fault → List ℕ
+lines_in Words asked is_told n st s limits r told came went =
     first_line n r s
-    ++ (columns_line_of asked s st r ++ (row_lines r ++ (account_lines_of is_told s r told ++ (name_line_of asked s st r ++ pending_lines s came went))))
-lines_in Json asked is_told n st s r told came went = json_line asked is_told n st s r told came went
+    ++ (columns_line_of asked s st r
+    ++ (row_lines r ++ (account_lines_of is_told s limits r told ++ (name_line_of asked s st r ++ pending_lines s came went))))
+lines_in Json asked is_told n st s limits r told came went = json_line asked is_told n st s limits r told came went
 
--- The lines of the outcome of the n-th statement, with the catalogue as it is directly after it, and those of its account. There is none where no
--- account was asked for when the statement ran; then a refusal for a limit has no line of what was counted.
-abbrev pub outcome_lines : Style → ℕ → Option Statement → Schema → Result Answer Refusal → Option (List Entry) → List ℕ
-outcome_lines style n st s r (Some told) = lines_in style.format style.explain true n st s r told [] []
-outcome_lines style n st s r None = lines_in style.format style.explain false n st s r [] [] []
+-- The lines of the outcome of the n-th statement of a session with these limits, with the catalogue as it is directly after it, and those of its
+-- account. There is none where no account was asked for when the statement ran; then a refusal for a limit has no line of what was counted.
+abbrev pub outcome_lines : Style → ℕ → Option Statement → Schema → Bounds → Result Answer Refusal → Option (List Entry) → List ℕ
+outcome_lines style n st s limits r (Some told) = lines_in style.format style.explain true n st s limits r told [] []
+outcome_lines style n st s limits r None = lines_in style.format style.explain false n st s limits r [] [] []
 
 -- The same, with what is told of the violations that are pending.
 abbrev pub lines : Style → ℕ → Statement → Outcome → List Entry → News → List ℕ
-lines style n st o told news = lines_in style.format style.explain style.explain n (Some st) o.state.schema o.answer told news.came news.went
+lines style n st o told news = lines_in style.format style.explain style.explain n (Some st) o.state.schema o.state.limits o.answer told news.came news.went
 
 -- the memory of the first statement; it is granted where the list is empty
 abbrev pub first_memory : List Memory → Memory

@@ -15,6 +15,7 @@ use iv_account::Entry;
 use iv_catalogue::Catalogue;
 use iv_explain::{write_columns_member, write_explained_member};
 use iv_lex::{Token, TokenKind, kind_text};
+use iv_machine::Limits;
 use iv_parse::SyntaxFault;
 use iv_print::{
     DeviceFault, Sink, write_all, write_json_account, write_json_text, write_key, write_member,
@@ -38,15 +39,16 @@ fn write_account_member<W: Sink>(
     writer: &mut W,
     is_told: bool,
     catalogue: &Catalogue,
+    limits: Limits,
     outcome: &Outcome,
     account: &[Entry],
 ) -> Result<(), DeviceFault>
     ensures { Writes (W.state writer.old) (W.state writer.new) result
-        (account_member is_told catalogue.now outcome.now account.now) }
+        (account_member is_told catalogue.now limits outcome.now account.now) }
 {
     if is_told {
         write_member(writer, b"account")?;
-        write_json_account(writer, catalogue, outcome, account)
+        write_json_account(writer, catalogue, limits, outcome, account)
     } else {
         write_nothing(writer)
     }
@@ -124,14 +126,21 @@ pub fn write_json_line<W: Sink>(
     told: Told<'_>,
 ) -> Result<(), DeviceFault>
     ensures { Writes (W.state writer.old) (W.state writer.new) result
-        (json_line telling.style.explain told.entry.is_told number (option_copied statement.entry) catalogue.now outcome.now
-        told.entry.account.now told.entry.came.now told.entry.went.now) }
+        (json_line telling.style.explain told.entry.is_told number (option_copied statement.entry) catalogue.now
+        told.entry.limits outcome.now told.entry.account.now told.entry.came.now told.entry.went.now) }
 {
     write_number_key(writer, number)?;
     write_outcome_members(writer, outcome, catalogue)?;
     write_columns(writer, telling, statement, outcome, catalogue)?;
     write_about(writer, telling, catalogue, statement, outcome)?;
-    write_account_member(writer, told.is_told, catalogue, outcome, told.account)?;
+    write_account_member(
+        writer,
+        told.is_told,
+        catalogue,
+        told.limits,
+        outcome,
+        told.account,
+    )?;
     write_pending_members(writer, catalogue, told.came, told.went)?;
     write_all(writer, b"}\n")
 }

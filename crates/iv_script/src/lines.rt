@@ -11,6 +11,7 @@ use crate::telling::Telling;
 use iv_account::Entry;
 use iv_catalogue::{Catalogue, Fault};
 use iv_explain::{write_columns_line, write_explained_line};
+use iv_machine::Limits;
 use iv_print::{
     DeviceFault, Format, Sink, write_account, write_first_line, write_nothing, write_pending_lines,
     write_row_lines,
@@ -22,6 +23,8 @@ use iv_syntax::Statement;
 /// and that went.
 #[derive(Clone, Copy)]
 pub struct Told<'a> {
+    /// The limits of the session.
+    pub limits: Limits,
     pub account: &'a [Entry],
     /// Whether the account is told: it was asked for when the statement ran.
     pub is_told: bool,
@@ -94,14 +97,15 @@ fn write_account_of<W: Sink>(
     writer: &mut W,
     is_told: bool,
     catalogue: &Catalogue,
+    limits: Limits,
     outcome: &Outcome,
     account: &[Entry],
 ) -> Result<(), DeviceFault>
     ensures { Writes (W.state writer.old) (W.state writer.new) result
-        (account_lines_of is_told catalogue.now outcome.now account.now) }
+        (account_lines_of is_told catalogue.now limits outcome.now account.now) }
 {
     if is_told {
-        write_account(writer, catalogue, outcome, account)
+        write_account(writer, catalogue, limits, outcome, account)
     } else {
         write_nothing(writer)
     }
@@ -122,14 +126,21 @@ fn write_words<W: Sink>(
         (first_line number outcome.now catalogue.now
         ++ (columns_line_of telling.style.explain catalogue.now (option_copied statement.entry) outcome.now
         ++ (row_lines outcome.now
-        ++ (account_lines_of told.entry.is_told catalogue.now outcome.now told.entry.account.now
+        ++ (account_lines_of told.entry.is_told catalogue.now told.entry.limits outcome.now told.entry.account.now
         ++ (name_line_of telling.style.explain catalogue.now (option_copied statement.entry) outcome.now
         ++ pending_lines catalogue.now told.entry.came.now told.entry.went.now))))) }
 {
     write_first_line(writer, number, outcome, catalogue)?;
     write_columns(writer, telling, statement, outcome, catalogue)?;
     write_row_lines(writer, outcome)?;
-    write_account_of(writer, told.is_told, catalogue, outcome, told.account)?;
+    write_account_of(
+        writer,
+        told.is_told,
+        catalogue,
+        told.limits,
+        outcome,
+        told.account,
+    )?;
     write_name_of(writer, telling, catalogue, statement, outcome)?;
     write_pending_lines(writer, catalogue, told.came, told.went)
 }
@@ -146,7 +157,7 @@ pub(crate) fn write_told<W: Sink>(
 ) -> Result<(), DeviceFault>
     ensures { Writes (W.state writer.old) (W.state writer.new) result
         (lines_in telling.style.format telling.style.explain told.entry.is_told number (option_copied statement.entry) catalogue.now
-        outcome.now told.entry.account.now told.entry.came.now told.entry.went.now) }
+        told.entry.limits outcome.now told.entry.account.now told.entry.came.now told.entry.went.now) }
 {
     match telling.style.format {
         Format::Words => write_words(writer, telling, number, statement, outcome, catalogue, told),
@@ -157,8 +168,8 @@ pub(crate) fn write_told<W: Sink>(
 }
 
 /// Writes the lines of a statement's outcome, and, where accounts are asked for and the statement is known, the columns
-/// of a query above its rows, or the name or the reason of a refusal. The account is given where it was asked for when
-/// the statement ran: without one a refusal for a limit has no line of what was counted.
+/// of a query above its rows, or the name or the reason of a refusal. The limits are those of its session. The account is
+/// given where it was asked for when the statement ran: without one a refusal for a limit has no line of what was counted.
 pub fn write_lines<W: Sink>(
     writer: &mut W,
     telling: Telling,
@@ -166,20 +177,23 @@ pub fn write_lines<W: Sink>(
     statement: Option<&Statement>,
     outcome: &Outcome,
     catalogue: &Catalogue,
+    limits: Limits,
     account: Option<&[Entry]>,
 ) -> Result<(), DeviceFault>
     ensures { Writes (W.state writer.old) (W.state writer.new) result
-        (outcome_lines telling.style number (option_copied statement.entry) catalogue.now outcome.now
+        (outcome_lines telling.style number (option_copied statement.entry) catalogue.now limits outcome.now
         (option_copied account.entry)) }
 {
     let told = match account {
         Some(account) => Told {
+            limits,
             account,
             is_told: true,
             came: &[],
             went: &[],
         },
         None => Told {
+            limits,
             account: &[],
             is_told: false,
             came: &[],

@@ -81,9 +81,10 @@ fn write_statement<S: Executor, W: Sink>(
 ) -> Result<(), DeviceFault>
     ensures { Writes (W.state writer.old) (W.state writer.new) result
         (lines_in telling.style.format telling.style.explain telling.style.explain number (Some statement.now)
-        (S.state session.now).schema outcome.now (S.told session.now).entries news.now.came.entries news.now.went.items) }
+        (S.state session.now).schema (S.state session.now).limits outcome.now (S.told session.now).entries news.now.came.entries news.now.went.items) }
 {
     let told = Told {
+        limits: session.limits(),
         account: session.account(),
         is_told: telling.style.explain,
         came: news.came.entries(),

@@ -32,6 +32,10 @@ impl<K: Keeper + Drop> Executor for Session<K> {
         self.is_untold()
     }
 
+    fn limits(&self) -> Limits {
+        self.limits()
+    }
+
     fn catalogue(&self) -> &Catalogue {
         self.catalogue()
     }

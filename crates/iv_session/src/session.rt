@@ -105,6 +105,13 @@ impl<K: Keeper + Drop> Session<K> {
         self.account.is_untold()
     }
 
+    /// The limits that it was made with.
+    pub fn limits(&self) -> Limits
+        ensures { result ≡ self.now.state.limits }
+    {
+        self.state.limits()
+    }
+
     /// The tables, constraints and triggers.
     pub fn catalogue(&self) -> &Catalogue
         ensures { result.now ≡ self.now.state.schema }

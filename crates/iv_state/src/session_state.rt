@@ -119,6 +119,13 @@ impl<K: Keeper + Drop> SessionState<K> {
         &self.catalogue
     }
 
+    /// The limits of its statements.
+    pub fn limits(&self) -> Limits
+        ensures { result ≡ self.now.state.limits }
+    {
+        self.limits
+    }
+
     /// The allocator that memory is taken from.
     pub fn allocator(&self) -> Global {
         self.store.allocator()

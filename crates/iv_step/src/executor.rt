@@ -59,6 +59,10 @@ pub trait Executor {
     fn is_untold(&self) -> bool
         ensures { result ≡ (told self.now).untold };
 
+    /// The limits of its statements.
+    fn limits(&self) -> Limits
+        ensures { result ≡ (state self.now).limits };
+
     /// The tables, constraints and triggers.
     fn catalogue(&self) -> &Catalogue
         ensures { result.now ≡ (state self.now).schema };
