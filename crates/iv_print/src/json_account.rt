@@ -27,7 +27,7 @@ use crate::json_way::write_limit_entry;
 use crate::names::{column_in, table_in};
 use crate::way::depth_after;
 use crate::write::{write_all, write_nothing, write_number};
-use iv_account::{Entry, SkippedView, TriggerView};
+use iv_account::{Entry, RowAction, SkippedView, TriggerView};
 use iv_catalogue::{
     Catalogue, Cause, Constraint, ConstraintId, ForeignKey, Refusal, Rule, TriggerId,
 };
