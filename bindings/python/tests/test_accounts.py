@@ -137,8 +137,8 @@ class ByHand(unittest.TestCase):
             "A of T: 9223372036854775807 + 1 is out of range", "PRICE of BOOK row 3 ('it''s: 1', 9): 9223372036854775807 * -2 is out of range",
             "WHERE of BOOK row 1 ('a\n  statement 1\n'): 0 - -9223372036854775808 is out of range", "WHEN of trigger R OLD (1) NEW (2): 9223372036854775807 + 2 is out of range",
             "item 2 of BOOK row 1 (9): 9223372036854775807 + 9 is out of range", "TITLE of BOOK from U row 3 ('it''s') is VARCHAR(5), and the text has 19 characters",
-            "depth 2, and 1 is the most: R statement 1", "counted so far 4, and this or the next row changes are too many: R statement 1, S statement 2",
-            "counted so far 1, and this or the next row changes are too many", "a transaction has at most 1048576 row changes",
+            "depth 2, and 1 is the most: R statement 1", "counted so far 4, 4 is the most, and this or the next row changes are too many: R statement 1, S statement 2",
+            "counted so far 1, 65536 is the most, and this or the next row changes are too many", "a transaction has at most 1048576 row changes",
         ):
             with self.subTest(line):
                 account = sqlkeep.parse_account(f"  {line}\n")

@@ -113,7 +113,7 @@ depth_words depth = (codes "depth " ++ decimal (counted depth 1)) ++ (codes ", a
 abbrev pub used_words : ℕ → List Entry → List ℕ
 used_words most entries =
     (codes "counted so far " ++ decimal (used_from 1 entries))
-    ++ (codes " of " ++ (decimal most ++ codes ", and this or the next row changes are too many"))
+    ++ (codes ", " ++ (decimal most ++ codes " is the most, and this or the next row changes are too many"))
 
 abbrev pub transaction_words : List ℕ
 transaction_words = codes "a transaction has at most " ++ (decimal most_changes_in_a_transaction ++ codes " row changes")

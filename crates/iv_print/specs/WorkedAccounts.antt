@@ -184,7 +184,7 @@ pub record WorkedAccounts : Type 0 where
       ++ codes "  depth 3, and 2 is the most: EACH statement 2, COUNTED statement 3\n"
   pub changes_are_the_limit : account_text schema limits (refused cause.TooManyChanges)
       (Changed (inserted 0 1 (int 1 ∷ []) ∷ inserted 0 2 (int 2 ∷ []) ∷ []) ∷ [])
-      ≡ codes "  insert P row 1 (1)\n  insert P row 2 (2)\n  counted so far 3 of 4, and this or the next row changes are too many\n"
+      ≡ codes "  insert P row 1 (1)\n  insert P row 2 (2)\n  counted so far 3, 4 is the most, and this or the next row changes are too many\n"
   pub transaction_is_the_limit : account_text schema limits (refused cause.TransactionTooLarge) [] ≡ codes "  a transaction has at most 1048576 row changes\n"
   -- the first three and the last of five
   pub long_way : account_text schema limits (refused (cause.DepthLimit 1))

@@ -361,9 +361,9 @@ fn tell_used<W: Sink>(
         format,
         b"counted so far ",
         used_so_far(entries),
-        b" of ",
+        b", ",
         most_in_a_statement(limits),
-        b", and this or the next row changes are too many",
+        b" is the most, and this or the next row changes are too many",
     )
 }
 

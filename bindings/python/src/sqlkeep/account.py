@@ -285,7 +285,7 @@ REASONS = [
     r"savepoint \w+ isn't there",
     rf"(?:item \d+|\w+)(?: (?:of|OLD|NEW) {WRITTEN})?(?:: -?\d+ [-+*] -?\d+ is out of range| is VARCHAR\(\d+\), and the text has \d+ characters)",
     r"depth \d+, and \d+ is the most[^\n]*",
-    r"counted so far \d+, and this or the next row changes are too many[^\n]*",
+    r"counted so far \d+, \d+ is the most, and this or the next row changes are too many[^\n]*",
     r"a transaction has at most \d+ row changes[^\n]*",
     r"no text is this statement",
 ]
