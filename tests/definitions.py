@@ -27,7 +27,7 @@ from edits import bare, libraries, read, repository, sandboxes, write
 
 HERE = os.path.dirname(os.path.abspath(__file__))
 CRATES = os.path.join(HERE, '..', 'crates')
-BELOW = ['iv_value', 'iv_numbers', 'iv_expr', 'iv_syntax', 'iv_catalogue', 'iv_key']
+BELOW = ['iv_value', 'iv_numbers', 'iv_expr', 'iv_syntax', 'iv_catalogue', 'iv_key', 'iv_lex', 'iv_parse_terms', 'iv_parse_data', 'iv_parse']
 # The crates whose definitions are changed, each with the crate whose worked scripts have to notice.
 NOTICES = {
     'iv_machine': 'iv_worked', 'iv_account': 'iv_worked', 'iv_key': 'iv_worked',
