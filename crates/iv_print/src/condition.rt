@@ -16,7 +16,7 @@ use iv_key::value_at;
 use iv_value::Value;
 
 /// What stands for a column: its name, or the value that a row has there.
-#[derive(Clone, Copy, Debug, PartialEq, Eq)]
+#[derive(Clone, Copy)]
 pub enum Shown {
     Names,
     Values,

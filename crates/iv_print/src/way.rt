@@ -18,14 +18,14 @@ use iv_catalogue::{Catalogue, Cause, Refusal, TriggerId};
 use iv_machine::{Answer, Limits, MOST_CHANGES_IN_A_TRANSACTION};
 
 /// A data statement of a trigger's body that has begun, by its place there.
-#[derive(Clone, Copy, Debug, PartialEq, Eq)]
+#[derive(Clone, Copy)]
 pub struct Begun {
     pub trigger: Option<TriggerId>,
     pub place: u32,
 }
 
 /// What is known of a level of an account: the trigger that ran last there, and the statement that began last there.
-#[derive(Clone, Copy, Debug, PartialEq, Eq)]
+#[derive(Clone, Copy)]
 pub struct Latest {
     pub trigger: Option<TriggerId>,
     pub begun: Option<Begun>,
@@ -276,7 +276,7 @@ fn used(entries: &[Entry]) -> u64
 // ---- the limit
 
 /// A limit of depth or of row changes.
-#[derive(Clone, Copy, Debug, PartialEq, Eq)]
+#[derive(Clone, Copy)]
 pub enum Limit {
     Depth,
     Changes,

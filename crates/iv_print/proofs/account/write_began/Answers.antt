@@ -1,0 +1,9 @@
+use Rattle.iv_print.proofs.WriteLemmas.{writes_then}
+use Rattle.iv_print.proofs.account.write_began.Goals as goal
+
+pub returns : goal.returns
+returns g c =
+    writes_then _ _ _ _ _ _ c.in_ok-write_indent.ensures
+    (writes_then _ _ _ _ _ _ c.in_ok-write_all.ensures
+    (writes_then _ _ _ _ _ _ (rw c.from.ensures at c.in_ok-write_number.ensures)
+    (writes_then _ _ _ _ _ _ (rw (c.as_bytes.ensures.value, c.nothing_text.ensures) at c.in_ok-write_all-2.ensures) c.write_all-3.ensures)))

@@ -1,0 +1,7 @@
+use Rattle.iv_print.proofs.WriteLemmas.{writes_then}
+use Rattle.iv_print.proofs.account.write_change.Goals as goal
+
+pub returns : goal.returns
+returns g c =
+    writes_then _ _ _ _ _ _ (rw (c.as_bytes.ensures.value, c.verb.ensures) at c.in_ok-write_all.ensures)
+    (writes_then _ _ _ _ _ _ c.in_ok-write_numbered.ensures c.write_sides.ensures)

@@ -1,0 +1,9 @@
+use Rattle.iv_print.proofs.WriteLemmas.{writes_then}
+use Rattle.iv_print.proofs.conflict.write_conflict.Goals as goal
+
+pub returns : goal.returns
+returns g c =
+    writes_then _ _ _ _ _ _ c.in_ok-write_indent.ensures
+    (writes_then _ _ _ _ _ _ c.in_ok-write_described.ensures
+    (writes_then _ _ _ _ _ _ c.in_ok-write_all.ensures
+    (writes_then _ _ _ _ _ _ c.in_ok-write_row.ensures c.write_all-2.ensures)))

@@ -1,0 +1,7 @@
+use Rattle.iv_print.proofs.WriteLemmas.{writes_then}
+use Rattle.iv_print.proofs.failure.write_column_of.Goals as goal
+
+pub returns : goal.returns
+returns g c =
+    writes_then _ _ _ _ _ _ c.in_ok-write_column.ensures
+    (writes_then _ _ _ _ _ _ c.in_ok-write_all.ensures c.write_table.ensures)

@@ -1,0 +1,7 @@
+use Rattle.iv_print.proofs.WriteLemmas.{writes_then}
+use Rattle.iv_print.proofs.json_account.write_place.Goals as goal
+
+pub returns : goal.returns
+returns g c =
+    writes_then _ _ _ _ _ _ c.in_ok-write_member.ensures
+    (writes_then _ _ _ _ _ _ c.in_ok-write_table.ensures c.write_number_member.ensures)

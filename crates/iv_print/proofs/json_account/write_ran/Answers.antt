@@ -1,0 +1,8 @@
+use Rattle.iv_print.proofs.WriteLemmas.{writes_then}
+use Rattle.iv_print.proofs.json_account.write_ran.Goals as goal
+
+pub returns : goal.returns
+returns g c =
+    writes_then _ _ _ _ _ _ c.in_ok-write_entry_key.ensures
+    (writes_then _ _ _ _ _ _ c.in_ok-write_member.ensures
+    (writes_then _ _ _ _ _ _ c.in_ok-write_trigger_name.ensures c.write_seen.ensures))

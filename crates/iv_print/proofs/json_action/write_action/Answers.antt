@@ -1,0 +1,8 @@
+use Rattle.iv_print.proofs.WriteLemmas.{writes_then}
+use Rattle.iv_print.proofs.json_action.write_action.Goals as goal
+
+pub returns : goal.returns
+returns g c =
+    writes_then _ _ _ _ _ _ c.in_ok-write_all.ensures
+    (writes_then _ _ _ _ _ _ c.in_ok-write_acting.ensures
+    (writes_then _ _ _ _ _ _ c.in_ok-write_place.ensures c.write_all-2.ensures))

@@ -1,0 +1,8 @@
+use Rattle.iv_print.proofs.WriteLemmas.{writes_then}
+use Rattle.iv_print.proofs.json_conflict.write_conflict.Goals as goal
+
+pub returns : goal.returns
+returns g c =
+    writes_then _ _ _ _ _ _ c.in_ok-write_entry_key.ensures
+    (writes_then _ _ _ _ _ _ c.in_ok-write_described.ensures
+    (writes_then _ _ _ _ _ _ c.in_ok-write_first.ensures c.write_all.ensures))

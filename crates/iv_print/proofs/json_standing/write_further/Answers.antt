@@ -1,0 +1,6 @@
+use Rattle.iv_print.proofs.WriteLemmas.{writes_then}
+use Rattle.iv_print.proofs.json_standing.write_further.Goals as goal
+
+pub returns : goal.returns
+returns g c =
+    writes_then _ _ _ _ _ _ c.in_ok-write_all.ensures (rw (c.as_bytes.ensures.value, c.as_str.ensures) at c.write_json_text.ensures)

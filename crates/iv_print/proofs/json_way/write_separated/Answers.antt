@@ -1,0 +1,5 @@
+use Rattle.iv_print.proofs.WriteLemmas.{writes_then}
+use Rattle.iv_print.proofs.json_way.write_separated.Goals as goal
+
+pub returns : goal.returns
+returns g c = writes_then _ _ _ _ _ _ (rw c.separator.ensures at c.in_ok-write_all.ensures) c.write_object.ensures

@@ -1,0 +1,10 @@
+use Rattle.iv_print.specs.Json.{json_text}
+use Rattle.iv_print.specs.Spelled.{spelled}
+use Rattle.iv_print.proofs.WriteLemmas.{writes_then}
+use Rattle.iv_print.proofs.json_way.write_text.Goals as goal
+
+pub returns : goal.returns
+unfolding spelled json_text
+returns g c =
+    writes_then _ _ _ _ _ _ c.in_ok-write_all.ensures
+    (writes_then _ _ _ _ _ _ c.in_ok-tell_limit.ensures c.write_all-2.ensures)
