@@ -123,11 +123,12 @@ pub fn write_json_line<W: Sink>(
     statement: Option<&Statement>,
     outcome: &Outcome,
     catalogue: &Catalogue,
+    limits: Limits,
     told: Told<'_>,
 ) -> Result<(), DeviceFault>
     ensures { Writes (W.state writer.old) (W.state writer.new) result
         (json_line telling.style.explain told.entry.is_told number (option_copied statement.entry) catalogue.now
-        told.entry.limits outcome.now told.entry.account.now told.entry.came.now told.entry.went.now) }
+        limits outcome.now told.entry.account.now told.entry.came.now told.entry.went.now) }
 {
     write_number_key(writer, number)?;
     write_outcome_members(writer, outcome, catalogue)?;
@@ -137,7 +138,7 @@ pub fn write_json_line<W: Sink>(
         writer,
         told.is_told,
         catalogue,
-        told.limits,
+        limits,
         outcome,
         told.account,
     )?;

@@ -23,8 +23,6 @@ use iv_syntax::Statement;
 /// and that went.
 #[derive(Clone, Copy)]
 pub struct Told<'a> {
-    /// The limits of the session.
-    pub limits: Limits,
     pub account: &'a [Entry],
     /// Whether the account is told: it was asked for when the statement ran.
     pub is_told: bool,
@@ -120,13 +118,14 @@ fn write_words<W: Sink>(
     statement: Option<&Statement>,
     outcome: &Outcome,
     catalogue: &Catalogue,
+    limits: Limits,
     told: Told<'_>,
 ) -> Result<(), DeviceFault>
     ensures { Writes (W.state writer.old) (W.state writer.new) result
         (first_line number outcome.now catalogue.now
         ++ (columns_line_of telling.style.explain catalogue.now (option_copied statement.entry) outcome.now
         ++ (row_lines outcome.now
-        ++ (account_lines_of told.entry.is_told catalogue.now told.entry.limits outcome.now told.entry.account.now
+        ++ (account_lines_of told.entry.is_told catalogue.now limits outcome.now told.entry.account.now
         ++ (name_line_of telling.style.explain catalogue.now (option_copied statement.entry) outcome.now
         ++ pending_lines catalogue.now told.entry.came.now told.entry.went.now))))) }
 {
@@ -137,7 +136,7 @@ fn write_words<W: Sink>(
         writer,
         told.is_told,
         catalogue,
-        told.limits,
+        limits,
         outcome,
         told.account,
     )?;
@@ -153,16 +152,19 @@ pub(crate) fn write_told<W: Sink>(
     statement: Option<&Statement>,
     outcome: &Outcome,
     catalogue: &Catalogue,
+    limits: Limits,
     told: Told<'_>,
 ) -> Result<(), DeviceFault>
     ensures { Writes (W.state writer.old) (W.state writer.new) result
         (lines_in telling.style.format telling.style.explain told.entry.is_told number (option_copied statement.entry) catalogue.now
-        told.entry.limits outcome.now told.entry.account.now told.entry.came.now told.entry.went.now) }
+        limits outcome.now told.entry.account.now told.entry.came.now told.entry.went.now) }
 {
     match telling.style.format {
-        Format::Words => write_words(writer, telling, number, statement, outcome, catalogue, told),
+        Format::Words => write_words(
+            writer, telling, number, statement, outcome, catalogue, limits, told,
+        ),
         Format::Json => write_json_line(
-            writer, telling, number, statement, outcome, catalogue, told,
+            writer, telling, number, statement, outcome, catalogue, limits, told,
         ),
     }
 }
@@ -186,19 +188,19 @@ pub fn write_lines<W: Sink>(
 {
     let told = match account {
         Some(account) => Told {
-            limits,
             account,
             is_told: true,
             came: &[],
             went: &[],
         },
         None => Told {
-            limits,
             account: &[],
             is_told: false,
             came: &[],
             went: &[],
         },
     };
-    write_told(writer, telling, number, statement, outcome, catalogue, told)
+    write_told(
+        writer, telling, number, statement, outcome, catalogue, limits, told,
+    )
 }

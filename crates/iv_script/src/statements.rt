@@ -84,7 +84,6 @@ fn write_statement<S: Executor, W: Sink>(
         (S.state session.now).schema (S.state session.now).limits outcome.now (S.told session.now).entries news.now.came.entries news.now.went.items) }
 {
     let told = Told {
-        limits: session.limits(),
         account: session.account(),
         is_told: telling.style.explain,
         came: news.came.entries(),
@@ -98,6 +97,7 @@ fn write_statement<S: Executor, W: Sink>(
         Some(statement),
         outcome,
         catalogue,
+        session.limits(),
         told,
     )
 }
