@@ -105,7 +105,7 @@ def listed(names):
 
 def types(text):
     """The types and constants of a module, without its functions."""
-    items = re.findall(r'^(?://!.*|use .*;|use .*\{\n(?:    .*\n)*\};)$|^((?:(?:///.*|#\[.*\])\n)*pub (?:const .*;|(?:enum|struct) \w+(?:<.*>)? \{\n(?:.*\n)*?\}))$', text, re.M)
+    items = re.findall(r'^(?://!.*|use .*;|use .*\{\n(?:    .*\n)*\};)$|^((?:(?:///.*|#\[.*\])\n)*pub (?:(?:const|static) [A-Z]\w*: .*?(?:\n.*?)*?;|(?:enum|struct) \w+(?:<.*>)? \{\n(?:.*\n)*?\}))$', text, re.M)
     kept = [item for item in items if item]
     uses = [line for line in re.findall(r'^use .*;$', text, re.M) if any(re.search(r'\b%s\b' % word, '\n'.join(kept)) for word in re.findall(r'\w+', line)[1:])]
     return '\n'.join(['//! Types.'] + uses + kept) + '\n'
