@@ -32,11 +32,11 @@ BELOW = ['iv_value', 'iv_numbers', 'iv_expr', 'iv_syntax', 'iv_catalogue', 'iv_k
 NOTICES = {
     'iv_machine': 'iv_worked', 'iv_account': 'iv_worked', 'iv_key': 'iv_worked',
     'iv_resolution': 'iv_worked', 'iv_syntax': 'iv_worked',
-    'iv_step': 'iv_step', 'iv_print': 'iv_print', 'iv_script': 'iv_script', 'iv_explain': 'iv_explain',
+    'iv_step': 'iv_step', 'iv_text': 'iv_text', 'iv_print': 'iv_print', 'iv_script': 'iv_script', 'iv_explain': 'iv_explain',
 }
-# Of these the definitions alone are copied. Four have their worked scripts beside the definitions; this file of theorems names them.
-DEFINED = ['iv_machine', 'iv_account', 'iv_resolution', 'iv_step', 'iv_print', 'iv_script', 'iv_explain']
-OWN = {'iv_step': 'WorkedScripts', 'iv_print': 'Worked', 'iv_script': 'Worked', 'iv_explain': 'ComputedNames'}
+# Of these the definitions alone are copied. Five have their worked scripts beside the definitions; this file of theorems names them.
+DEFINED = ['iv_machine', 'iv_account', 'iv_resolution', 'iv_step', 'iv_text', 'iv_print', 'iv_script', 'iv_explain']
+OWN = {'iv_step': 'WorkedScripts', 'iv_text': 'Worked', 'iv_print': 'Worked', 'iv_script': 'Worked', 'iv_explain': 'ComputedNames'}
 WORKED = ['iv_worked']
 CHANGES = os.path.join(HERE, 'definitions.edits')
 DIGEST = os.path.join(HERE, 'definitions.digest')
@@ -60,12 +60,15 @@ def changes():
 
 
 def definitions(crate):
-    """The files of a crate's definitions: all, or those that its worked scripts need."""
+    """The files of a crate's definitions: all, or those that its worked scripts and those of the crates above need."""
     folder = os.path.join(CRATES, crate, 'specs')
     if crate not in OWN:
         return sorted(file[:-5] for file in os.listdir(folder) if file != 'Lib.antt')
     theorems = read(os.path.join(CRATES, crate, 'proofs', OWN[crate] + '.antt'))
     needed, open_ones = set(), re.findall(r'Rattle\.%s\.specs\.(Worked\w*)\.' % crate, theorems)
+    for other in DEFINED[DEFINED.index(crate) + 1 :]:
+        for file in definitions(other):
+            open_ones += re.findall(r'Rattle\.%s\.specs\.(\w+)\.' % crate, read(os.path.join(CRATES, other, 'specs', file + '.antt')))
     while open_ones:
         name = open_ones.pop()
         if name not in needed and os.path.exists(os.path.join(folder, name + '.antt')):

@@ -26,8 +26,8 @@ EXCEPTIONS = [
     ('iv_program/src/program.rt', 'refuse_words', 'NoMemory', 'memory was refused for the options, which is an error of its own'),
     ('iv_program/src/reading.rt', 'words_error', 'NoMemory', 'clap tells by a kind of its error that memory was refused'),
     ('iv_program/src/dumping.rt', 'stop_of', 'NoMemory', 'the dump was refused memory, which is a refusal of its own'),
-    ('iv_print/src/device.rt', 'read', 'DeviceFault', 'the reader under the device failed'),
-    ('iv_print/src/device.rt', 'write', 'DeviceFault', 'the writer under the device failed, or took none of some bytes'),
+    ('iv_text/src/device.rt', 'read', 'DeviceFault', 'the reader under the device failed'),
+    ('iv_text/src/device.rt', 'write', 'DeviceFault', 'the writer under the device failed, or took none of some bytes'),
 ]
 
 # what may come before a word that is a value, beside a parenthesis and a comma: an opening, an assignment, an arm, a closure, `return`, or another statement

@@ -7,7 +7,7 @@ ROOT = os.path.dirname(os.path.dirname(os.path.realpath(__file__)))
 PROGRAM = "sqlkeep"
 LIBRARY = "sqlkeep_c"
 # the structs that the library for C answers with are in these crates below it
-ANSWERS = ("iv_connection",)
+ANSWERS = ("iv_shown", "iv_connection")
 
 
 def say(line):

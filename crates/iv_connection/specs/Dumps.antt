@@ -1,8 +1,8 @@
 -- A dump that is kept, and whether there is one.
 use Rattle.std.specs.Prelude.{◌≡◌, ◌≢◌, ℕ, List, map, MatchBool, string_bytes}
 use Rattle.iv_machine.specs.Machine.{State, is_open}
-use Rattle.iv_connection.specs.declared.connection.Connection.{Connection}
-use Rattle.iv_connection.specs.declared.status.TheConstants.{OK, IN_TRANSACTION, NO_MEMORY, TOO_LONG}
+use Rattle.iv_shown.specs.declared.connection.Connection.{Connection}
+use Rattle.iv_shown.specs.declared.status.TheConstants.{OK, IN_TRANSACTION, NO_MEMORY, TOO_LONG}
 
 -- the scripts of the last dump
 abbrev pub scripts_of : Connection → List (List ℕ)

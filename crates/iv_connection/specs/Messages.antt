@@ -6,12 +6,12 @@ use Rattle.iv_catalogue.specs.declared.cause.Cause.TheVariants as cause
 use Rattle.iv_catalogue.specs.declared.cause.Refusal.{Refusal}
 use Rattle.iv_machine.specs.declared.answer.Answer.{Answer}
 use Rattle.iv_machine.specs.declared.answer.Answer.TheVariants.{Done, Changed, Rows}
-use Rattle.iv_print.specs.Causes.{cause_name, constraint_of, or_inside, trigger_of}
+use Rattle.iv_text.specs.Causes.{cause_name, constraint_of, or_inside, trigger_of}
 use Rattle.iv_script.specs.Transcript.{name_line_of}
 use Rattle.iv_connection.specs.OutcomeLines.{executed}
 use Rattle.iv_connection.specs.Statements.{row_of}
-use Rattle.iv_connection.specs.Texts.{constraint_named, signal_of, trigger_named}
-use Rattle.iv_connection.specs.declared.connection.Connection.{Connection}
+use Rattle.iv_shown.specs.Texts.{constraint_named, signal_of, trigger_named}
+use Rattle.iv_shown.specs.declared.connection.Connection.{Connection}
 
 -- the constraint, the row, the trigger and the text of a SIGNAL, where there is one
 abbrev pub constraint_part : Schema → Option ℕ → List ℕ

@@ -1,10 +1,10 @@
 -- The lines of the last outcome, as the program writes them.
 use Rattle.std.specs.Prelude.{ℕ, if◌then◌else◌, List, Option, Some, None, slice_get}
 use Rattle.iv_account.specs.declared.entry.Entry.{Entry}
-use Rattle.iv_print.specs.declared.format.Format.{Format}
+use Rattle.iv_text.specs.declared.format.Format.{Format}
 use Rattle.iv_script.specs.Transcript.{outcome_lines}
 use Rattle.iv_syntax.specs.declared.statement.Statement.{Statement}
-use Rattle.iv_connection.specs.declared.connection.Connection.{Connection}
+use Rattle.iv_shown.specs.declared.connection.Connection.{Connection}
 
 -- the statement that was executed last, where it is among those that were read last
 abbrev pub executed : List Statement → Option ℕ → Option Statement

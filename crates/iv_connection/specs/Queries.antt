@@ -9,7 +9,7 @@ use Rattle.iv_syntax.specs.declared.statement.Statement.{Statement}
 use Rattle.iv_syntax.specs.declared.statement.Statement.TheVariants as statement
 use Rattle.iv_syntax.specs.declared.tree.Expression.{Expression}
 use Rattle.iv_syntax.specs.declared.tree.Expression.TheVariants as expression
-use Rattle.iv_connection.specs.Catalogue.{columns_at}
+use Rattle.iv_shown.specs.Catalogue.{columns_at}
 
 -- an expression that is a column has the column's name; any other has none
 abbrev pub expression_name : Expression → List ℕ

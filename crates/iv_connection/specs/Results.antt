@@ -8,10 +8,10 @@ use Rattle.iv_syntax.specs.declared.statement.Statement.{Statement}
 use Rattle.iv_value.specs.declared.value.Value.{Value}
 use Rattle.iv_connection.specs.OutcomeLines.{executed}
 use Rattle.iv_connection.specs.Queries.{query_column, query_columns}
-use Rattle.iv_connection.specs.declared.connection.Connection.{Connection}
+use Rattle.iv_shown.specs.declared.connection.Connection.{Connection}
 use Rattle.iv_connection.specs.declared.results.QueryResult.{QueryResult}
 use Rattle.iv_connection.specs.declared.results.ShownResult.{ShownResult}
-use Rattle.iv_connection.specs.declared.status.TheConstants.{OK, NOTHING}
+use Rattle.iv_shown.specs.declared.status.TheConstants.{OK, NOTHING}
 
 -- the rows of an outcome, if it is one of a query
 abbrev pub rows_given : Result Answer Refusal → Option (List (List Value))

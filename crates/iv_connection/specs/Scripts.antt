@@ -1,9 +1,9 @@
 -- What the run of a script gives to C.
 use Rattle.std.specs.Prelude.{◌≡◌, ℕ, Bool, true, List, [], Option, Some, None}
 use Rattle.iv_machine.specs.Bounds.{Bounds}
-use Rattle.iv_print.specs.Sinks.{SinkState, sink_state}
-use Rattle.iv_print.specs.declared.format.Format.TheVariants.{Words}
-use Rattle.iv_print.specs.declared.format.Style.{Style}
+use Rattle.iv_text.specs.Sinks.{SinkState, sink_state}
+use Rattle.iv_text.specs.declared.format.Format.TheVariants.{Words}
+use Rattle.iv_text.specs.declared.format.Style.{Style}
 use Rattle.iv_parse.specs.declared.parser.SyntaxFault.{SyntaxFault}
 use Rattle.iv_script.specs.declared.summary.Summary.{Summary}
 use Rattle.iv_script.specs.Transcript.{RanScript, RanWithMemory, fault_place}

@@ -4,7 +4,7 @@ use Rattle.iv_account.specs.Telling.{no_account}
 use Rattle.iv_machine.specs.Bounds.{Bounds}
 use Rattle.iv_machine.specs.declared.answer.Answer.TheVariants.{Done}
 use Rattle.iv_machine.specs.Machine.{empty_state, no_work}
-use Rattle.iv_connection.specs.declared.connection.Connection.{Connection}
+use Rattle.iv_shown.specs.declared.connection.Connection.{Connection}
 
 -- The state is that of no table, with these limits. Nothing was done yet: no statement was read or executed, no value was bound, nothing was looked up or looked
 -- for, and nothing was written or dumped. No account is asked for.

@@ -6,7 +6,7 @@ use Rattle.iv_catalogue.specs.declared.cause.Cause.TheVariants as cause
 use Rattle.iv_catalogue.specs.declared.cause.Refusal.{Refusal}
 use Rattle.iv_machine.specs.declared.answer.Answer.{Answer}
 use Rattle.iv_machine.specs.declared.answer.Answer.TheVariants.{Done, Changed, Rows}
-use Rattle.iv_print.specs.Causes.{cause_number}
+use Rattle.iv_text.specs.Causes.{cause_number}
 use Rattle.iv_parse.specs.Script.{IsFault, IsScript}
 use Rattle.iv_parse.specs.declared.parser.SyntaxFault.{SyntaxFault}
 use Rattle.iv_syntax.specs.declared.statement.Statement.{Statement}

@@ -11,7 +11,7 @@ use Rattle.iv_value.specs.declared.value.Value.{Value}
 use Rattle.iv_connection.specs.Statements.{place_shown}
 use Rattle.iv_connection.specs.TemplateFaults.{template_fault}
 use Rattle.iv_connection.specs.declared.statements.ReadScript.{ReadScript}
-use Rattle.iv_connection.specs.declared.status.TheConstants.{NOT_UTF8, NO_MEMORY, WRONG_COUNT, NO_TEMPLATE}
+use Rattle.iv_shown.specs.declared.status.TheConstants.{NOT_UTF8, NO_MEMORY, WRONG_COUNT, NO_TEMPLATE}
 
 -- The statements are those of the text that is the template with the values in place of its question marks, one for each. Its fault is told in
 -- bytes of the template.

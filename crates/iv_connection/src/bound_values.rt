@@ -1,10 +1,9 @@
 //! Values that are bound to the question marks of a template, in their order.
 ghost use Rattle.std.specs.Prelude.{◌≡◌, ◌≢◌, ◌∷◌, ◌++◌, []};
 ghost use Rattle.iv_value.specs.declared.value.Value.TheVariants as value;
-ghost use Rattle.iv_connection.specs.Statuses.{MayWantMemory};
+ghost use Rattle.iv_shown.specs.Statuses.{MayWantMemory};
 
-use crate::connection::Connection;
-use crate::status::{NO_MEMORY, OK};
+use iv_shown::{Connection, NO_MEMORY, OK};
 use iv_value::{Value, text};
 use std::alloc::Global;
 

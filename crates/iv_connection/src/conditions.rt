@@ -4,12 +4,11 @@ ghost use Rattle.iv_resolution.specs.Scopes.{named_columns};
 ghost use Rattle.iv_restate.specs.Constraints.{columns_at};
 ghost use Rattle.iv_connection.specs.Conditions.{SaysCheck, SaysRule, check_text, constraint_condition, rule_condition};
 
-use crate::connection::Connection;
-use crate::constraints::constraint_at;
 use iv_catalogue::{Catalogue, Column, Rule};
 use iv_dump::laws::checks_can_be_written;
 use iv_expr::{Cond, TableId};
 use iv_restate::check_condition;
+use iv_shown::{Connection, constraint_at};
 use iv_write::write_condition;
 use std::alloc::{AllocError, Global};
 

@@ -4,9 +4,8 @@ ghost use Rattle.iv_dump.specs.Dumps.{AreDump};
 ghost use Rattle.iv_dump.specs.Scripts.{AreShort};
 ghost use Rattle.iv_connection.specs.Dumps.{IsDumpStatus, scripts_of};
 
-use crate::connection::Connection;
-use crate::status::{IN_TRANSACTION, NO_MEMORY, OK, TOO_LONG};
 use iv_dump::{DumpRefusal, dump};
+use iv_shown::{Connection, IN_TRANSACTION, NO_MEMORY, OK, TOO_LONG};
 use std::alloc::Global;
 
 /// Writes the database as scripts that make it again, none of them too long, and keeps them in place of the last dump.

@@ -1,25 +1,24 @@
 //! The last outcome in words.
 ghost use Rattle.std.specs.Prelude.{◌≡◌, ◌++◌, Err, IfOk, decimal, true};
-ghost use Rattle.iv_print.specs.Writing.{Writes};
+ghost use Rattle.iv_text.specs.Writing.{Writes};
 ghost use Rattle.iv_script.specs.Transcript.{name_line_of};
 ghost use Rattle.iv_connection.specs.OutcomeLines.{executed};
 ghost use Rattle.iv_connection.specs.Messages.{answer_message, constraint_part, heading, message_of, name_part, refusal_message, refusal_parts, row_part, signal_part, trigger_part};
 
-use crate::connection::Connection;
 use crate::outcomes::row_of;
 use crate::statements::executed;
-use crate::texts::{constraint_named, signal_of, trigger_named};
 use iv_catalogue::{Catalogue, Cause, ConstraintId, Refusal, TriggerId};
 use iv_explain::write_explained_line;
-use iv_print::{
+use iv_session::Answer;
+use iv_shown::{Connection, constraint_named, signal_of, trigger_named};
+use iv_text::{
     DeviceFault, Sink, Std, cause_name, constraint_of, trigger_of, write_all, write_nothing,
     write_number,
 };
-use iv_session::Answer;
 use std::alloc::Global;
 
 // Words and what they are about.
-#[tactic(auto, using(iv_print::proofs::WriteLemmas::writes_then))]
+#[tactic(auto, using(iv_text::proofs::WriteLemmas::writes_then))]
 fn write_part<W: Sink>(sink: &mut W, words: &[u8], about: &[u8]) -> Result<(), DeviceFault>
     ensures { Writes (W.state sink.old) (W.state sink.new) result (words.now ++ about.now) }
 {
@@ -27,7 +26,7 @@ fn write_part<W: Sink>(sink: &mut W, words: &[u8], about: &[u8]) -> Result<(), D
     write_all(sink, about)
 }
 
-#[tactic(auto, using(iv_print::proofs::WriteLemmas::writes_then))]
+#[tactic(auto, using(iv_text::proofs::WriteLemmas::writes_then))]
 fn write_count<W: Sink>(sink: &mut W, words: &[u8], count: u64) -> Result<(), DeviceFault>
     ensures { Writes (W.state sink.old) (W.state sink.new) result (words.now ++ decimal count) }
 {
@@ -107,7 +106,7 @@ fn write_heading<W: Sink>(sink: &mut W, cause: &Cause) -> Result<(), DeviceFault
 }
 
 // What a refusal speaks of.
-#[tactic(auto, using(iv_print::proofs::WriteLemmas::writes_then))]
+#[tactic(auto, using(iv_text::proofs::WriteLemmas::writes_then))]
 fn write_about<W: Sink>(
     sink: &mut W,
     catalogue: &Catalogue,

@@ -3,8 +3,8 @@ ghost use Rattle.std.specs.Prelude.{◌≡◌};
 ghost use Rattle.iv_connection.specs.Statements.{outcome_shown, row_of};
 
 use iv_catalogue::Cause;
-use iv_print::cause_number;
 use iv_session::{Answer, Outcome};
+use iv_text::cause_number;
 
 /// A statement was done.
 pub const DONE: u32 = 0;

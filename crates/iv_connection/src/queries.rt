@@ -3,9 +3,9 @@ ghost use Rattle.std.specs.Prelude.{◌≡◌, option_and_then, option_copied, o
 ghost use Rattle.iv_connection.specs.OutcomeLines.{executed};
 ghost use Rattle.iv_connection.specs.Queries.{column_count_of, column_name_of, columns_named, count_name, expression_name, query_column, query_columns, query_of};
 
-use crate::connection::Connection;
 use crate::statements::executed;
 use iv_catalogue::{Catalogue, Column};
+use iv_shown::Connection;
 use iv_syntax::{Expression, Name, Select, SelectList, Statement};
 
 fn expression_name(expression: &Expression) -> &[u8]

@@ -3,13 +3,12 @@ ghost use Rattle.std.specs.Prelude.{◌≡◌, ◌≢◌, [], Some, None, Ok, If
 ghost use Rattle.iv_machine.specs.declared.answer.Answer.TheVariants as answer;
 ghost use Rattle.iv_connection.specs.OutcomeLines.{executed};
 ghost use Rattle.iv_connection.specs.Results.{last_names, names_from, names_of, result_shown, rows_given};
-ghost use Rattle.iv_connection.specs.Rows.{rows_of};
+ghost use Rattle.iv_shown.specs.Rows.{rows_of};
 
-use crate::connection::Connection;
 use crate::queries::{query_column, query_columns};
-use crate::status::{NO_MEMORY, NOTHING};
 use iv_expr::Row;
 use iv_session::{Answer, Outcome};
+use iv_shown::{Connection, NO_MEMORY, NOTHING};
 use sqlite_items::Items;
 use std::alloc::{AllocError, Global};
 use std::mem::replace;

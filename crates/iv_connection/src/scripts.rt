@@ -4,11 +4,10 @@ ghost use Rattle.std.specs.Str.{IsUtf8};
 ghost use Rattle.iv_script.specs.Lengths.{Fits};
 ghost use Rattle.iv_connection.specs.Scripts.{IsTranscript, IsWithMemory};
 
-use crate::connection::{Connection, Database};
-use crate::status::{NO_MEMORY, NOT_UTF8, OK, TOO_LONG};
 use iv_machine::Limits;
-use iv_print::{Format, Std, Style};
 use iv_script::{LONGEST, RunFault, Summary, run};
+use iv_shown::{Connection, Database, NO_MEMORY, NOT_UTF8, OK, TOO_LONG};
+use iv_text::{Format, Std, Style};
 use std::alloc::Global;
 
 // Runs a script in a new database, and gives its transcript.

@@ -2,10 +2,9 @@
 ghost use Rattle.std.specs.Prelude.{None, IfOk};
 ghost use Rattle.iv_connection.specs.Sessions.{IsNew};
 
-use crate::connection::{Connection, Database};
-use crate::places::SourceText;
 use iv_machine::Limits;
 use iv_session::Answer;
+use iv_shown::{Connection, Database, SourceText};
 use sqlite_items::Items;
 use std::alloc::{AllocError, Global};
 

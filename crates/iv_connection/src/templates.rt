@@ -10,9 +10,9 @@ ghost use Rattle.iv_connection.specs.TemplateFaults.{template_fault};
 ghost use Rattle.iv_connection.specs.Templates.{IsScriptOfTemplate, WhyNotFilled, WhyNotRead};
 
 use crate::statements::{ParsedText, source_text};
-use crate::status::{NO_MEMORY, NO_TEMPLATE, NOT_UTF8, WRONG_COUNT};
 use crate::template_faults::template_fault;
 use iv_parse::script;
+use iv_shown::{NO_MEMORY, NO_TEMPLATE, NOT_UTF8, WRONG_COUNT};
 use iv_template::{FillFault, filled};
 use iv_value::Value;
 use std::alloc::{AllocError, Global};

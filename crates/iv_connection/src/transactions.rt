@@ -2,9 +2,9 @@
 ghost use Rattle.std.specs.Prelude.{◌≡◌, ◌-◌, None};
 ghost use Rattle.iv_connection.specs.Transactions.{Committed};
 
-use crate::connection::{Connection, Database};
 use iv_catalogue::{Cause, Refusal};
 use iv_session::{Answer, Outcome};
+use iv_shown::{Connection, Database};
 
 /// What the last statement or call did: how many row changes it made and undid, and how many keys it looked up.
 #[repr(C)]

@@ -19,7 +19,7 @@ use Rattle.iv_machine.specs.Levels.{row_firing, statement_firing}
 use Rattle.iv_laws_rows.specs.RowFits.{BodyFits, change_fits}
 use Rattle.iv_laws_rows.proofs.FittingFrames.{row_firings_fit, statement_firings_fit}
 use Rattle.iv_laws_rows.proofs.MoreMembers.{all_by_in}
-use Rattle.iv_exec_transitions.specs.ByTable.{is_of, transitions_on}
+use Rattle.iv_exec_triggers.specs.ByTable.{is_of, transitions_on}
 use Rattle.iv_exec_level.specs.Firing.{ActionFits, AreParts, AreTransitions, CanFire}
 
 pub from_place : {X : Type 0} (xs : List X) (i : ℕ) (x : X) → slice_get xs i ≡ Some x → drop i xs ≡ x ∷ drop (i + 1) xs

@@ -15,9 +15,9 @@ use Rattle.iv_machine.specs.Databases.{size}
 use Rattle.iv_machine.specs.Levels.{Finished, Runs, Progress, firings, firings_run, immediate_check, level, level_columns, level_steps, nested_level}
 use Rattle.iv_machine.specs.Proposals.{proposed_wave, set_columns}
 use Rattle.iv_machine.specs.Waves.{SettledWaves, net_wave, settled_waves}
-use Rattle.iv_exec_transitions.specs.ByTable.{ByTableAndEvent, all_firings}
-use Rattle.iv_exec_transitions.proofs.FiringsByTable.{firings_parted}
-use Rattle.iv_exec_transitions.proofs.NamedColumns.{firings_by_name}
+use Rattle.iv_exec_triggers.specs.ByTable.{ByTableAndEvent, all_firings}
+use Rattle.iv_exec_triggers.proofs.FiringsByTable.{firings_parted}
+use Rattle.iv_exec_triggers.proofs.NamedColumns.{firings_by_name}
 use Rattle.iv_laws_rows.specs.RowFits.{wave_fits}
 use Rattle.iv_exec_context.proofs.Answers.{unless_memory}
 use Rattle.iv_exec_level.specs.Steps.{allowed_wave, finished, progress, waves_and_after}

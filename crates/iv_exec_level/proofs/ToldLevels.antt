@@ -13,7 +13,7 @@ use Rattle.iv_machine.specs.Context.{Context}
 use Rattle.iv_machine.specs.Levels.{Runs, Progress, firings, immediate_check, level_columns, nested_level}
 use Rattle.iv_machine.specs.Proposals.{set_columns}
 use Rattle.iv_machine.specs.Waves.{net_wave, settled_waves}
-use Rattle.iv_exec_transitions.specs.ByTable.{all_firings}
+use Rattle.iv_exec_triggers.specs.ByTable.{all_firings}
 use Rattle.iv_laws_rows.specs.Changing.{UnlessMemory}
 use Rattle.iv_exec_context.proofs.Answers.{unless_memory}
 use Rattle.iv_exec_waves.specs.Steps.{wave_with}

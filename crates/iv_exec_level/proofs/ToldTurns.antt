@@ -9,7 +9,7 @@ use Rattle.iv_catalogue.specs.declared.plan.DataStatement.{DataStatement}
 use Rattle.iv_catalogue.specs.declared.plan.Trigger.{Trigger}
 use Rattle.iv_machine.specs.Context.{Failure}
 use Rattle.iv_machine.specs.Levels.{Firing, Runs, Progress, firing_run, firings_run, row_firing, statement_run}
-use Rattle.iv_exec_transitions.specs.ByTable.{after_firings, all_firings}
+use Rattle.iv_exec_triggers.specs.ByTable.{after_firings, all_firings}
 use Rattle.iv_account.specs.Accounts.{Tells, body_told, firing_told, firings_told, statement_told}
 use Rattle.iv_account.specs.Telling.{Account, and_told}
 use Rattle.iv_account.proofs.Telling.{both_told, then_on, then_refused, turn_refused, turn_told}

@@ -7,7 +7,7 @@ use Rattle.iv_catalogue.specs.declared.plan.BodyStatement.{BodyStatement}
 use Rattle.iv_catalogue.specs.declared.plan.DataStatement.{DataStatement}
 use Rattle.std.specs.List.{enumerate_from}
 use Rattle.iv_catalogue.specs.declared.plan.Trigger.{Trigger}
-use Rattle.iv_exec_transitions.specs.ByTable.{after_firings, all_firings}
+use Rattle.iv_exec_triggers.specs.ByTable.{after_firings, all_firings}
 use Rattle.iv_exec_level.specs.Firing.{FiresAt}
 use Rattle.iv_exec_level.proofs.Lending.{from_place}
 use Rattle.iv_expr.specs.Evaluation.{and_then}

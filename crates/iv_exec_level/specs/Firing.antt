@@ -13,7 +13,7 @@ use Rattle.iv_machine.specs.Levels.{row_firing}
 use Rattle.iv_catalogue.specs.declared.plan.Trigger.{Trigger}
 use Rattle.iv_machine.specs.BeforeTriggers.{event_of_change, is_on}
 use Rattle.iv_laws_rows.specs.RowFits.{StatementFits, changes_fit, wave_fits}
-use Rattle.iv_exec_transitions.specs.ByTable.{ByTableAndEvent}
+use Rattle.iv_exec_triggers.specs.ByTable.{ByTableAndEvent}
 use Rattle.iv_exec_level.specs.declared.start.LevelChanges.{LevelChanges}
 
 -- these are changes of a trigger's table and event, which fit

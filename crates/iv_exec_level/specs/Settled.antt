@@ -11,7 +11,7 @@ use Rattle.iv_machine.specs.Context.{Context}
 use Rattle.iv_machine.specs.Levels.{firings, level_columns}
 use Rattle.iv_machine.specs.Proposals.{set_columns}
 use Rattle.iv_machine.specs.Waves.{net_wave, settled_waves}
-use Rattle.iv_exec_transitions.specs.ByTable.{ByTableAndEvent}
+use Rattle.iv_exec_triggers.specs.ByTable.{ByTableAndEvent}
 use Rattle.iv_exec_waves.specs.Steps.{wave_with}
 use Rattle.iv_exec_level.specs.declared.start.LevelChanges.{LevelChanges}
 

@@ -7,12 +7,12 @@ ghost use Rattle.iv_laws_fitting.specs.PlanShapes.{trigger_suits};
 ghost use Rattle.iv_machine.specs.BeforeTriggers.{for_each_row};
 ghost use Rattle.iv_machine.specs.Levels.{statement_firing};
 ghost use Rattle.iv_laws_rows.specs.RowFits.{BodyFits};
-ghost use Rattle.iv_exec_transitions.specs.ByTable.{transitions_on};
+ghost use Rattle.iv_exec_triggers.specs.ByTable.{transitions_on};
 ghost use Rattle.iv_exec_level.specs.Firing.{ActionFits, AreParts, AreTransitions, CanFire, FiresAt};
 
 use iv_catalogue::{BodyStatement, Trigger};
 use iv_exec_context::Context;
-use iv_exec_transitions::Transitions;
+use iv_exec_triggers::Transitions;
 use iv_expr::{Change, Frame};
 
 /// The trigger at a place.

@@ -10,9 +10,9 @@ ghost use Rattle.iv_expr.specs.declared.wave.TableColumn.{TableColumn as Column}
 ghost use Rattle.iv_machine.specs.BeforeTriggers.{for_each_row, placed_statements};
 ghost use Rattle.iv_machine.specs.Levels.{body_run, firing_run, firings_run, level, nested_level, row_firing, statement_firing, statement_run};
 ghost use Rattle.iv_laws_rows.specs.RowFits.{BodyFits, StatementFits, changes_fit};
-ghost use Rattle.iv_exec_transitions.specs.ByTable.{after_firings, all_firings};
+ghost use Rattle.iv_exec_triggers.specs.ByTable.{after_firings, all_firings};
 ghost use Rattle.iv_laws_rows.specs.Changing.{AnswersAt, StoreFits, UnlessMemory, database_and_size, with_database};
-ghost use Rattle.iv_exec_before.specs.Recording.{Records};
+ghost use Rattle.iv_exec_triggers.specs.Recording.{Records};
 ghost use Rattle.iv_exec_waves.specs.Applying.{Proposes};
 ghost use Rattle.iv_exec_waves.specs.Running.{LeavesStore};
 ghost use Rattle.iv_store.specs.Lookups.{LooksUp};
@@ -28,9 +28,8 @@ use crate::lent::{recall_transitions, row_frame, statement_at, statement_frame, 
 use crate::start::{LevelChanges, allowed, check, settle_waves, when_of};
 use iv_account::Account;
 use iv_catalogue::{BodyStatement, Catalogue, Cause, DataStatement, Refusal, Trigger, TriggerId};
-use iv_exec_before::is_true;
 use iv_exec_context::{Context, tell_when};
-use iv_exec_transitions::{Fires, Transitions, firings};
+use iv_exec_triggers::{Fires, Transitions, firings, is_true};
 use iv_expr::{Change, Frame, TableColumn};
 use iv_machine::Limits;
 use iv_modes::Modes;

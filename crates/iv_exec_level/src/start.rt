@@ -11,7 +11,7 @@ ghost use Rattle.iv_machine.specs.Proposals.{holds, set_columns};
 ghost use Rattle.iv_machine.specs.Waves.{net_wave};
 ghost use Rattle.iv_laws_rows.specs.RowFits.{StatementFits, changes_fit};
 ghost use Rattle.iv_laws_rows.specs.Changing.{AnswersAt, StoreFits};
-ghost use Rattle.iv_exec_before.specs.Recording.{Records};
+ghost use Rattle.iv_exec_triggers.specs.Recording.{Records};
 ghost use Rattle.iv_exec_waves.specs.Applying.{Proposes};
 ghost use Rattle.iv_exec_waves.specs.Running.{LeavesStore};
 ghost use Rattle.iv_account.specs.declared.entry.Entry.{Entry};
@@ -25,10 +25,12 @@ ghost use Rattle.iv_exec_level.specs.Steps.{allowed_told, allowed_wave};
 
 use iv_account::Account;
 use iv_catalogue::{Cause, DataStatement, Refusal, Trigger};
-use iv_exec_before::{before_statement, set_columns, truth_of_when};
 use iv_exec_context::{Context, tell_proposal};
 use iv_exec_proposals::proposed;
-use iv_exec_transitions::{Transitions, level_columns, may_fire, transitions, transitions_of};
+use iv_exec_triggers::{
+    Transitions, before_statement, level_columns, may_fire, set_columns, transitions,
+    transitions_of, truth_of_when,
+};
 use iv_exec_waves::settle;
 use iv_expr::{Change, Frame, Scope, TableColumn, Wave};
 use iv_machine::Which;

@@ -3,15 +3,15 @@ ghost use Rattle.std.specs.Prelude.{◌≡◌, length};
 ghost use Rattle.iv_machine.specs.Waves.{wave_as_applied};
 ghost use Rattle.iv_account.specs.Accounts.{entered_told};
 ghost use Rattle.iv_laws_rows.specs.Changing.{AnswersAt};
-ghost use Rattle.iv_exec_before.specs.Recording.{Records};
+ghost use Rattle.iv_exec_triggers.specs.Recording.{Records};
 ghost use Rattle.iv_exec_waves.specs.Progress.{Progress};
 ghost use Rattle.iv_exec_waves.specs.Steps.{wave_with};
 
 use crate::numbering::number;
 use iv_account::Account;
 use iv_catalogue::{Cause, Refusal};
-use iv_exec_before::before_rows;
 use iv_exec_context::Context;
+use iv_exec_triggers::before_rows;
 use iv_expr::{Change, TableColumn, Wave};
 use iv_machine::MOST_CHANGES_IN_A_TRANSACTION;
 use iv_store::ChangeableRows;

@@ -8,7 +8,7 @@ ghost use Rattle.iv_store.specs.Lookups.{foreign_keys};
 ghost use Rattle.iv_account.specs.declared.entry.Entry.TheVariants as entry;
 ghost use Rattle.iv_account.specs.Accounts.{acted_told, action_fault_told, conflict_told, disagreement_at, following_told, if_some};
 ghost use Rattle.iv_account.specs.Telling.{and_told};
-ghost use Rattle.iv_exec_before.specs.Recording.{Records};
+ghost use Rattle.iv_exec_triggers.specs.Recording.{Records};
 ghost use Rattle.iv_laws_kept.specs.FollowingWaves.{LedTo};
 ghost use Rattle.iv_exec_actions.specs.Answers.{AnswersWave};
 

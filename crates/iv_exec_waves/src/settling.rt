@@ -6,7 +6,7 @@ ghost use Rattle.iv_machine.specs.Waves.{one_wave, settled_waves};
 ghost use Rattle.iv_account.specs.Accounts.{applied_told, one_wave_told, waves_told};
 ghost use Rattle.iv_laws_rows.specs.RowFits.{changes_fit};
 ghost use Rattle.iv_laws_rows.specs.Changing.{AnswersAt, StoreFits};
-ghost use Rattle.iv_exec_before.specs.Recording.{Records};
+ghost use Rattle.iv_exec_triggers.specs.Recording.{Records};
 ghost use Rattle.iv_exec_waves.specs.Applying.{Applicable, Proposes};
 ghost use Rattle.iv_exec_waves.specs.Progress.{Progress};
 ghost use Rattle.iv_exec_waves.specs.Running.{LeavesStore};

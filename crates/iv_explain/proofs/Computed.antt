@@ -2,7 +2,7 @@
 use Rattle.std.proofs.Common.{refl}
 use Rattle.std.specs.Fmt.{digits}
 use Rattle.iv_catalogue.specs.Names.{generated_name}
-use Rattle.iv_print.specs.Json.{json_text, member}
+use Rattle.iv_text.specs.Json.{json_text, member}
 use Rattle.iv_resolution.specs.Scopes.{column_meant, is_source, source_named, source_columns, range_of}
 use Rattle.iv_resolution.specs.Terms.{clash}
 use Rattle.iv_resolution.specs.Changes.{clashes_with, kinds_clash}

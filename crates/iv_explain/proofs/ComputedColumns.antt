@@ -1,7 +1,7 @@
 -- The worked columns compute.
 use Rattle.std.proofs.Common.{refl}
 use Rattle.std.specs.Fmt.{digits}
-use Rattle.iv_print.specs.Json.{json_text, member}
+use Rattle.iv_text.specs.Json.{json_text, member}
 use Rattle.iv_explain.specs.WorkedColumns.{WorkedColumns}
 
 pub columns : WorkedColumns

@@ -3,7 +3,7 @@ use Rattle.std.proofs.Common.{◌≡◌, ◌∙◌, ℕ, List, [], ◌∷◌, �
 use Rattle.std.specs.List.{flat_map}
 use Rattle.std.proofs.lemmas.Grind.{flat_map-append}
 use Rattle.iv_catalogue.specs.Names.{generated_name}
-use Rattle.iv_print.specs.Json.{escaped, json_text}
+use Rattle.iv_text.specs.Json.{escaped, json_text}
 use Rattle.iv_explain.specs.JsonNames.{generated_parts}
 
 pub parts_are : (table : List ℕ) (place : ℕ) → generated_parts table place ≡ json_text (generated_name table place)

@@ -4,12 +4,12 @@ use Rattle.iv_syntax.specs.declared.tree.Sign.{Sign}
 use Rattle.iv_syntax.specs.declared.tree.Expression.{Expression}
 use Rattle.iv_syntax.specs.declared.tree.Expression.TheVariants as expression
 use Rattle.iv_syntax.proofs.TreeShapes.{group_is, signed_is, product_is, sum_is}
-use Rattle.iv_print.specs.Sinks.{SinkState}
-use Rattle.iv_print.specs.Writing.{Writes}
-use Rattle.iv_print.specs.declared.format.Format.{Format}
+use Rattle.iv_text.specs.Sinks.{SinkState}
+use Rattle.iv_text.specs.Writing.{Writes}
+use Rattle.iv_text.specs.declared.format.Format.{Format}
 use Rattle.iv_explain.specs.Expressions.{expression_text, operator_text, sign_text}
-use Rattle.iv_print.specs.Spelled.{spelled}
-use Rattle.iv_print.proofs.SpelledLemmas.{Written, three, two}
+use Rattle.iv_text.specs.Spelled.{spelled}
+use Rattle.iv_text.proofs.SpelledLemmas.{Written, three, two}
 
 pub group_told : (f : Format) (e a b : Expression) (p q r s : SinkState) (x : Written) → e ≡ expression.Group a → b ≡ a
     → Writes p q (Ok tt) (spelled f (codes "(")) → Writes q r (Ok tt) (spelled f (expression_text b)) → Writes r s x (spelled f (codes ")"))

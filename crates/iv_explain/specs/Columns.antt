@@ -11,9 +11,9 @@ use Rattle.iv_syntax.specs.declared.tree.Expression.TheVariants as expression
 use Rattle.iv_catalogue.specs.Catalogues.{Schema, table_named}
 use Rattle.iv_catalogue.specs.declared.catalogue.Column.{Column}
 use Rattle.iv_catalogue.specs.declared.catalogue.Table.{Table}
-use Rattle.iv_print.specs.Json.{json_text, member}
-use Rattle.iv_print.specs.declared.format.Format.{Format}
-use Rattle.iv_print.specs.declared.format.Format.TheVariants.{Words, Json}
+use Rattle.iv_text.specs.Json.{json_text, member}
+use Rattle.iv_text.specs.declared.format.Format.{Format}
+use Rattle.iv_text.specs.declared.format.Format.TheVariants.{Words, Json}
 use Rattle.iv_explain.specs.Expressions.{expression_text}
 
 -- ---- the columns of a query

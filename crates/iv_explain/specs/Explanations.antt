@@ -6,8 +6,8 @@ use Rattle.iv_syntax.specs.declared.statement.Statement.TheVariants.{Release, Ro
 use Rattle.iv_catalogue.specs.Catalogues.{Schema}
 use Rattle.iv_catalogue.specs.declared.cause.Cause.{Cause}
 use Rattle.iv_catalogue.specs.declared.cause.Cause.TheVariants as cause
-use Rattle.iv_print.specs.Json.{json_text, member}
-use Rattle.iv_print.specs.Lines.{name_of}
+use Rattle.iv_text.specs.Json.{json_text, member}
+use Rattle.iv_text.specs.Lines.{name_of}
 use Rattle.iv_resolution.specs.Items.{Fault}
 use Rattle.iv_resolution.specs.NameFaults.{name_fault}
 use Rattle.iv_resolve_reasons.specs.Reasons.{Reason, refusal_reason}

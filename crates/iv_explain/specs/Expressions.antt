@@ -10,7 +10,7 @@ use Rattle.iv_syntax.specs.declared.tree.Expression.TheVariants.{Number, Text, N
 use Rattle.iv_syntax.specs.declared.tree.Sign.{Sign}
 use Rattle.iv_syntax.specs.declared.tree.Sign.TheVariants.{Plus, Minus}
 use Rattle.iv_syntax.specs.Trees.{group, signed, product, sum}
-use Rattle.iv_print.specs.Lines.{quoted_text}
+use Rattle.iv_text.specs.Lines.{quoted_text}
 
 -- a sign before its operand
 abbrev pub sign_text : Sign → List ℕ

@@ -2,7 +2,7 @@
 use Rattle.std.specs.Prelude.{ℕ, List, [], ◌++◌, codes, decimal, Option, Some, None}
 use Rattle.std.specs.List.{flat_map}
 use Rattle.iv_catalogue.specs.Names.{generated_name}
-use Rattle.iv_print.specs.Json.{escaped, json_text, key, member}
+use Rattle.iv_text.specs.Json.{escaped, json_text, key, member}
 use Rattle.iv_resolution.specs.Items.{Item, table_item, column_item, variable_item, trigger_item, constraint_item, generated_item, transition_item, Fault, unknown_fault, in_use_fault, twice_fault}
 
 -- what is named, and its name

@@ -1,17 +1,17 @@
 //! The columns that a query gives.
 ghost use Rattle.std.specs.Prelude.{◌≡◌, ◌++◌, codes, map, option_copied};
 ghost use Rattle.std.specs.List.{flat_map};
-ghost use Rattle.iv_print.specs.Writing.{Writes};
+ghost use Rattle.iv_text.specs.Writing.{Writes};
 ghost use Rattle.iv_explain.specs.Columns.{column_in, column_texts, columns_line, columns_member, columns_named, further_in, listed_in, output_text, own_name, separator};
-ghost use Rattle.iv_print.specs.Spelled.{spelled};
+ghost use Rattle.iv_text.specs.Spelled.{spelled};
 ghost use Rattle.iv_syntax.specs.declared.statement.Statement.TheVariants as statement;
 
 use crate::expressions::tell_expression;
 use iv_catalogue::{Catalogue, Column};
-use iv_print::{
+use iv_syntax::{Expression, Name, Select, SelectList, Statement};
+use iv_text::{
     DeviceFault, Format, Sink, tell, write_all, write_json_text, write_member, write_nothing,
 };
-use iv_syntax::{Expression, Name, Select, SelectList, Statement};
 
 fn own_name(expression: &Expression) -> Option<&str>
     ensures { option_copied result ≡ own_name expression.now }
@@ -37,7 +37,7 @@ fn tell_output<W: Sink>(
 }
 
 // An expression as JSON has it, between its quotes.
-#[tactic(auto, using(iv_print::proofs::WriteLemmas::writes_then), unfolding(iv_print::specs::Spelled::spelled, iv_print::specs::Json::json_text))]
+#[tactic(auto, using(iv_text::proofs::WriteLemmas::writes_then), unfolding(iv_text::specs::Spelled::spelled, iv_text::specs::Json::json_text))]
 fn write_quoted<W: Sink>(writer: &mut W, expression: &Expression) -> Result<(), DeviceFault>
     ensures { Writes (W.state writer.old) (W.state writer.new) result
         (column_in Format.Json (output_text expression.now)) }
@@ -47,7 +47,7 @@ fn write_quoted<W: Sink>(writer: &mut W, expression: &Expression) -> Result<(), 
     write_all(writer, b"\"")
 }
 
-#[tactic(auto, unfolding(iv_print::specs::Spelled::spelled))]
+#[tactic(auto, unfolding(iv_text::specs::Spelled::spelled))]
 fn write_output<W: Sink>(
     writer: &mut W,
     format: Format,
@@ -81,7 +81,7 @@ fn write_separator<W: Sink>(writer: &mut W, format: Format) -> Result<(), Device
     }
 }
 
-#[tactic(auto, using(iv_print::proofs::WriteLemmas::writes_then))]
+#[tactic(auto, using(iv_text::proofs::WriteLemmas::writes_then))]
 fn write_further_name<W: Sink>(
     writer: &mut W,
     format: Format,
@@ -111,7 +111,7 @@ fn write_more_names<W: Sink>(
     Ok(())
 }
 
-#[tactic(auto, using(iv_print::proofs::WriteLemmas::writes_then))]
+#[tactic(auto, using(iv_text::proofs::WriteLemmas::writes_then))]
 fn write_names<W: Sink>(
     writer: &mut W,
     format: Format,
@@ -129,7 +129,7 @@ fn write_names<W: Sink>(
     }
 }
 
-#[tactic(auto, using(iv_print::proofs::WriteLemmas::writes_then))]
+#[tactic(auto, using(iv_text::proofs::WriteLemmas::writes_then))]
 fn write_further_output<W: Sink>(
     writer: &mut W,
     format: Format,
@@ -159,7 +159,7 @@ fn write_more_outputs<W: Sink>(
     Ok(())
 }
 
-#[tactic(auto, using(iv_print::proofs::WriteLemmas::writes_then))]
+#[tactic(auto, using(iv_text::proofs::WriteLemmas::writes_then))]
 fn write_outputs<W: Sink>(
     writer: &mut W,
     format: Format,
@@ -209,7 +209,7 @@ fn write_query<W: Sink>(
     }
 }
 
-#[tactic(auto, using(iv_print::proofs::WriteLemmas::writes_then))]
+#[tactic(auto, using(iv_text::proofs::WriteLemmas::writes_then))]
 fn write_query_line<W: Sink>(
     writer: &mut W,
     catalogue: &Catalogue,
@@ -238,7 +238,7 @@ pub fn write_columns_line<W: Sink>(
     }
 }
 
-#[tactic(auto, using(iv_print::proofs::WriteLemmas::writes_then))]
+#[tactic(auto, using(iv_text::proofs::WriteLemmas::writes_then))]
 fn write_query_member<W: Sink>(
     writer: &mut W,
     catalogue: &Catalogue,

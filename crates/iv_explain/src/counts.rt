@@ -1,9 +1,9 @@
 //! Numbers, and numbers of things.
-ghost use Rattle.iv_print.specs.Spelled.{spelled};
-ghost use Rattle.iv_print.specs.Writing.{Writes};
+ghost use Rattle.iv_text.specs.Spelled.{spelled};
+ghost use Rattle.iv_text.specs.Writing.{Writes};
 ghost use Rattle.iv_explain.specs.Reasons.{columns_text, counted_text, values_text};
 
-use iv_print::{DeviceFault, Format, Sink, tell_numbered};
+use iv_text::{DeviceFault, Format, Sink, tell_numbered};
 
 // One thing, or so many.
 fn tell_counted<W: Sink>(

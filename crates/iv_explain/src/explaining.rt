@@ -1,7 +1,7 @@
 //! What is told of a refusal, as values.
 ghost use Rattle.std.specs.Prelude.{◌≡◌, option_map, slice_get};
 ghost use Rattle.std.specs.Option.{option_or};
-ghost use Rattle.iv_print.specs.Lines.{name_of};
+ghost use Rattle.iv_text.specs.Lines.{name_of};
 ghost use Rattle.iv_resolution.specs.NameFaults.{name_fault};
 ghost use Rattle.iv_resolve_reasons.specs.Reasons.{refusal_reason};
 ghost use Rattle.iv_explain.specs.Explanations.{by_resolution, explanation_of, no_savepoint, of_name, of_reason, savepoint_named, why_refused};

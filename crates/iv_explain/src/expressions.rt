@@ -1,16 +1,16 @@
 //! Value expressions, literals, types and lists of names.
 ghost use Rattle.std.specs.Prelude.{◌++◌, codes, decimal};
 ghost use Rattle.std.specs.List.{flat_map};
-ghost use Rattle.iv_print.specs.Lines.{quoted_text};
-ghost use Rattle.iv_print.specs.Writing.{Writes};
+ghost use Rattle.iv_text.specs.Lines.{quoted_text};
+ghost use Rattle.iv_text.specs.Writing.{Writes};
 ghost use Rattle.iv_explain.specs.Expressions.{expression_text, further_name, literal_text, names_text, operator_text, qualifier_text, sign_before, sign_text, type_text};
-ghost use Rattle.iv_print.specs.Spelled.{spelled};
+ghost use Rattle.iv_text.specs.Spelled.{spelled};
 
-use iv_print::{
+use iv_syntax::{ColumnName, ColumnType, Expression, Literal, Name, Sign};
+use iv_text::{
     DeviceFault, Format, Sink, tell, tell_both, tell_nothing, tell_number, tell_number_between,
     tell_quoted,
 };
-use iv_syntax::{ColumnName, ColumnType, Expression, Literal, Name, Sign};
 
 fn tell_qualifier<W: Sink>(
     writer: &mut W,
@@ -26,7 +26,7 @@ fn tell_qualifier<W: Sink>(
     }
 }
 
-#[tactic(auto, using(iv_print::proofs::SpelledLemmas::spelled_then))]
+#[tactic(auto, using(iv_text::proofs::SpelledLemmas::spelled_then))]
 fn tell_column<W: Sink>(
     writer: &mut W,
     format: Format,
@@ -108,7 +108,7 @@ fn tell_sign_before<W: Sink>(
     }
 }
 
-#[tactic(auto, using(iv_print::proofs::SpelledLemmas::spelled_then))]
+#[tactic(auto, using(iv_text::proofs::SpelledLemmas::spelled_then))]
 fn tell_signed<W: Sink>(
     writer: &mut W,
     format: Format,
@@ -179,7 +179,7 @@ fn tell_further<W: Sink>(writer: &mut W, format: Format, names: &[Name]) -> Resu
 }
 
 // A name and further ones.
-#[tactic(auto, using(iv_print::proofs::SpelledLemmas::spelled_then))]
+#[tactic(auto, using(iv_text::proofs::SpelledLemmas::spelled_then))]
 fn tell_listed<W: Sink>(
     writer: &mut W,
     format: Format,

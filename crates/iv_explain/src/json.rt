@@ -1,7 +1,7 @@
 //! The member of a JSON object that tells more of a refusal.
 ghost use Rattle.std.specs.Prelude.{◌++◌, codes, option_map};
-ghost use Rattle.iv_print.specs.Json.{json_text, member};
-ghost use Rattle.iv_print.specs.Writing.{Writes};
+ghost use Rattle.iv_text.specs.Json.{json_text, member};
+ghost use Rattle.iv_text.specs.Writing.{Writes};
 ghost use Rattle.iv_resolve_name_faults.specs.Seen.{fault_seen};
 ghost use Rattle.iv_explain.specs.Explanations.{explained_member, explained_with, explanation_member, why_text};
 ghost use Rattle.iv_explain.specs.JsonNames.{json_fault};
@@ -11,13 +11,13 @@ use crate::explaining::{Explanation, Why, explained};
 use crate::json_name::write_json_fault;
 use crate::reasons::tell_why;
 use iv_catalogue::{Catalogue, Cause};
-use iv_print::{DeviceFault, Format, Sink, write_all, write_member, write_nothing};
 use iv_resolve_name_faults::NameFault;
 use iv_syntax::Statement;
+use iv_text::{DeviceFault, Format, Sink, write_all, write_member, write_nothing};
 use std::alloc::Global;
 
 // A reason between its quotes.
-#[tactic(auto, using(iv_print::proofs::WriteLemmas::writes_then), unfolding(iv_print::specs::Spelled::spelled, iv_print::specs::Json::json_text))]
+#[tactic(auto, using(iv_text::proofs::WriteLemmas::writes_then), unfolding(iv_text::specs::Spelled::spelled, iv_text::specs::Json::json_text))]
 fn write_quoted<W: Sink>(writer: &mut W, why: Why<'_>) -> Result<(), DeviceFault>
     ensures { Writes (W.state writer.old) (W.state writer.new) result
         (json_text (why_text (why_seen why.entry))) }
@@ -27,7 +27,7 @@ fn write_quoted<W: Sink>(writer: &mut W, why: Why<'_>) -> Result<(), DeviceFault
     write_all(writer, b"\"")
 }
 
-#[tactic(auto, using(iv_print::proofs::WriteLemmas::writes_then))]
+#[tactic(auto, using(iv_text::proofs::WriteLemmas::writes_then))]
 fn write_reason<W: Sink>(writer: &mut W, why: Why<'_>) -> Result<(), DeviceFault>
     ensures { Writes (W.state writer.old) (W.state writer.new) result
         (member (codes "reason") ++ json_text (why_text (why_seen why.entry))) }
@@ -36,7 +36,7 @@ fn write_reason<W: Sink>(writer: &mut W, why: Why<'_>) -> Result<(), DeviceFault
     write_quoted(writer, why)
 }
 
-#[tactic(auto, using(iv_print::proofs::WriteLemmas::writes_then))]
+#[tactic(auto, using(iv_text::proofs::WriteLemmas::writes_then))]
 fn write_about<W: Sink>(writer: &mut W, fault: NameFault<'_>) -> Result<(), DeviceFault>
     ensures { Writes (W.state writer.old) (W.state writer.new) result
         (member (codes "about") ++ json_fault (fault_seen fault.entry)) }

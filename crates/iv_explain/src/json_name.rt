@@ -3,21 +3,21 @@ ghost use Rattle.std.specs.Prelude.{◌++◌, codes};
 ghost use Rattle.std.specs.List.{flat_map};
 ghost use Rattle.std.specs.Option.{option_copied};
 ghost use Rattle.iv_catalogue.specs.Names.{generated_name};
-ghost use Rattle.iv_print.specs.Json.{json_text};
-ghost use Rattle.iv_print.specs.Writing.{Writes};
+ghost use Rattle.iv_text.specs.Json.{json_text};
+ghost use Rattle.iv_text.specs.Writing.{Writes};
 ghost use Rattle.iv_resolution.specs.Items.{generated_item};
 ghost use Rattle.iv_resolve_name_faults.specs.Seen.{fault_seen, item_seen};
 ghost use Rattle.iv_explain.specs.JsonNames.{fault_key, generated_parts, item_members, json_fault, named_members, range_member};
 
 use itoa::Buffer;
-use iv_print::{
+use iv_resolve_name_faults::{NameFault, NamedItem};
+use iv_text::{
     DeviceFault, Sink, write_all, write_json_bytes, write_json_text, write_key, write_member,
     write_nothing, write_text_member,
 };
-use iv_resolve_name_faults::{NameFault, NamedItem};
 
 // What is named, and its name.
-#[tactic(auto, using(iv_print::proofs::WriteLemmas::writes_then))]
+#[tactic(auto, using(iv_text::proofs::WriteLemmas::writes_then))]
 fn write_named<W: Sink>(writer: &mut W, what: &[u8], name: &str) -> Result<(), DeviceFault>
     ensures { Writes (W.state writer.old) (W.state writer.new) result (named_members what.now name.now) }
 {
@@ -26,7 +26,7 @@ fn write_named<W: Sink>(writer: &mut W, what: &[u8], name: &str) -> Result<(), D
     write_text_member(writer, b"name", name.as_bytes())
 }
 
-#[tactic(auto, using(iv_print::proofs::WriteLemmas::writes_then))]
+#[tactic(auto, using(iv_text::proofs::WriteLemmas::writes_then))]
 fn write_range<W: Sink>(writer: &mut W, range: Option<&str>) -> Result<(), DeviceFault>
     ensures { Writes (W.state writer.old) (W.state writer.new) result
         (range_member (option_copied range.entry)) }
@@ -37,7 +37,7 @@ fn write_range<W: Sink>(writer: &mut W, range: Option<&str>) -> Result<(), Devic
     }
 }
 
-#[tactic(auto, using(iv_print::proofs::WriteLemmas::writes_then))]
+#[tactic(auto, using(iv_text::proofs::WriteLemmas::writes_then))]
 fn write_column<W: Sink>(writer: &mut W, range: Option<&str>, name: &str) -> Result<(), DeviceFault>
     ensures { Writes (W.state writer.old) (W.state writer.new) result
         (named_members (codes "column") name.now ++ range_member (option_copied range.entry)) }
@@ -47,7 +47,7 @@ fn write_column<W: Sink>(writer: &mut W, range: Option<&str>, name: &str) -> Res
 }
 
 // The parts of the name that is generated for a constraint, in its quotes.
-#[tactic(auto, using(iv_print::proofs::WriteLemmas::writes_then))]
+#[tactic(auto, using(iv_text::proofs::WriteLemmas::writes_then))]
 fn write_generated_parts<W: Sink>(
     writer: &mut W,
     table: &str,
@@ -77,7 +77,7 @@ fn write_generated_name<W: Sink>(
 }
 
 // A constraint without a name.
-#[tactic(auto, using(iv_print::proofs::WriteLemmas::writes_then))]
+#[tactic(auto, using(iv_text::proofs::WriteLemmas::writes_then))]
 fn write_generated<W: Sink>(writer: &mut W, table: &str, place: u128) -> Result<(), DeviceFault>
     ensures { Writes (W.state writer.old) (W.state writer.new) result
         (item_members (generated_item table.now place)) }
@@ -102,7 +102,7 @@ fn write_item<W: Sink>(writer: &mut W, item: NamedItem<'_>) -> Result<(), Device
     }
 }
 
-#[tactic(auto, using(iv_print::proofs::WriteLemmas::writes_then))]
+#[tactic(auto, using(iv_text::proofs::WriteLemmas::writes_then))]
 fn write_fault_key<W: Sink>(writer: &mut W, fault: &[u8]) -> Result<(), DeviceFault>
     ensures { Writes (W.state writer.old) (W.state writer.new) result (fault_key fault.now) }
 {
@@ -112,7 +112,7 @@ fn write_fault_key<W: Sink>(writer: &mut W, fault: &[u8]) -> Result<(), DeviceFa
 }
 
 // What is wrong with an item.
-#[tactic(auto, using(iv_print::proofs::WriteLemmas::writes_then))]
+#[tactic(auto, using(iv_text::proofs::WriteLemmas::writes_then))]
 fn write_judged<W: Sink>(
     writer: &mut W,
     fault: &[u8],

@@ -1,17 +1,17 @@
 //! The limit that a statement is beyond.
 ghost use Rattle.std.specs.Prelude.{◌++◌, codes};
-ghost use Rattle.iv_print.specs.Writing.{Writes};
+ghost use Rattle.iv_text.specs.Writing.{Writes};
 ghost use Rattle.iv_resolve_name_faults.specs.Seen.{item_seen};
 ghost use Rattle.iv_resolve_reasons.specs.Seen.{limit_fault_seen};
 ghost use Rattle.iv_resolve_reasons.specs.Limits.{many_characters, many_columns, many_constraints, many_key_columns, many_statements, many_tables, many_triggers, many_triggers_ever, no_characters};
 ghost use Rattle.iv_explain.specs.Reasons.{limit_text};
-ghost use Rattle.iv_print.specs.Spelled.{spelled};
+ghost use Rattle.iv_text.specs.Spelled.{spelled};
 
 use crate::parts::Part;
 use crate::sentences::{tell_five, tell_seven, tell_six, tell_three};
-use iv_print::{DeviceFault, Format, Sink, tell};
 use iv_resolve_name_faults::NamedItem;
 use iv_resolve_reasons::LimitFault;
+use iv_text::{DeviceFault, Format, Sink, tell};
 
 fn tell_tables<W: Sink>(
     writer: &mut W,

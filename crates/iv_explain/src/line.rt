@@ -1,17 +1,17 @@
 //! The line that tells more of a refusal.
 ghost use Rattle.std.specs.Prelude.{◌++◌, codes, option_map};
-ghost use Rattle.iv_print.specs.Writing.{Writes};
+ghost use Rattle.iv_text.specs.Writing.{Writes};
 ghost use Rattle.iv_explain.specs.Explanations.{explained_line, explanation_line, explanation_text};
 ghost use Rattle.iv_explain.specs.Seen.{explanation_seen};
 
 use crate::explaining::{Explanation, explained};
 use crate::reasons::tell_explanation;
 use iv_catalogue::{Catalogue, Cause};
-use iv_print::{DeviceFault, Format, Sink, write_all, write_nothing};
 use iv_syntax::Statement;
+use iv_text::{DeviceFault, Format, Sink, write_all, write_nothing};
 use std::alloc::Global;
 
-#[tactic(auto, unfolding(iv_print::specs::Spelled::spelled))]
+#[tactic(auto, unfolding(iv_text::specs::Spelled::spelled))]
 fn write_explanation<W: Sink>(
     writer: &mut W,
     explanation: Explanation<'_>,
@@ -22,7 +22,7 @@ fn write_explanation<W: Sink>(
     tell_explanation(writer, Format::Words, explanation)
 }
 
-#[tactic(auto, using(iv_print::proofs::WriteLemmas::writes_then))]
+#[tactic(auto, using(iv_text::proofs::WriteLemmas::writes_then))]
 fn write_told<W: Sink>(writer: &mut W, explanation: Explanation<'_>) -> Result<(), DeviceFault>
     ensures { Writes (W.state writer.old) (W.state writer.new) result
         (codes "  " ++ (explanation_text (explanation_seen explanation.entry) ++ codes "\n")) }

@@ -2,16 +2,16 @@
 ghost use Rattle.std.specs.Prelude.{◌++◌, codes};
 ghost use Rattle.std.specs.Option.{option_copied};
 ghost use Rattle.iv_catalogue.specs.Names.{generated_name};
-ghost use Rattle.iv_print.specs.Writing.{Writes};
+ghost use Rattle.iv_text.specs.Writing.{Writes};
 ghost use Rattle.iv_resolve_name_faults.specs.Seen.{fault_seen, item_seen};
 ghost use Rattle.iv_explain.specs.Names.{column_text, fault_text, item_text};
-ghost use Rattle.iv_print.specs.Spelled.{spelled};
+ghost use Rattle.iv_text.specs.Spelled.{spelled};
 
-use iv_print::{DeviceFault, Format, Sink, tell, tell_both, tell_number_after};
 use iv_resolve_name_faults::{NameFault, NamedItem};
+use iv_text::{DeviceFault, Format, Sink, tell, tell_both, tell_number_after};
 
 // A column after the range or row variable that is written before it.
-#[tactic(auto, using(iv_print::proofs::SpelledLemmas::spelled_then))]
+#[tactic(auto, using(iv_text::proofs::SpelledLemmas::spelled_then))]
 fn tell_qualified<W: Sink>(
     writer: &mut W,
     format: Format,
@@ -42,7 +42,7 @@ fn tell_column<W: Sink>(
 }
 
 // The name that is generated for a constraint, after these words.
-#[tactic(auto, using(iv_print::proofs::SpelledLemmas::spelled_then), unfolding(iv_catalogue::specs::Names::generated_name))]
+#[tactic(auto, using(iv_text::proofs::SpelledLemmas::spelled_then), unfolding(iv_catalogue::specs::Names::generated_name))]
 fn tell_generated<W: Sink>(
     writer: &mut W,
     format: Format,
@@ -94,7 +94,7 @@ pub fn tell_item<W: Sink>(
 }
 
 // What is named, and what is said of it.
-#[tactic(auto, using(iv_print::proofs::SpelledLemmas::spelled_then))]
+#[tactic(auto, using(iv_text::proofs::SpelledLemmas::spelled_then))]
 fn tell_item_and<W: Sink>(
     writer: &mut W,
     format: Format,

@@ -1,16 +1,16 @@
 //! The parts of a sentence.
-ghost use Rattle.iv_print.specs.Writing.{Writes};
+ghost use Rattle.iv_text.specs.Writing.{Writes};
 ghost use Rattle.iv_explain.specs.Seen.{part_text};
-ghost use Rattle.iv_print.specs.Spelled.{spelled};
+ghost use Rattle.iv_text.specs.Spelled.{spelled};
 
 use crate::counts::{tell_columns, tell_values};
 use crate::expressions::{tell_expression, tell_kind, tell_literal, tell_names};
 use crate::names::tell_item;
 use crate::words::{tell_event, tell_side, tell_unsuited, tell_what};
 use iv_expr::Side;
-use iv_print::{DeviceFault, Format, Sink, tell, tell_number};
 use iv_resolve_name_faults::NamedItem;
 use iv_syntax::{ColumnType, Expression, Literal, Name, TransitionName, TriggerEvent};
+use iv_text::{DeviceFault, Format, Sink, tell, tell_number};
 
 /// A part of a sentence.
 #[derive(Clone, Copy)]

@@ -1,11 +1,11 @@
 //! Reasons, and all that is told of a refusal.
 ghost use Rattle.std.specs.Prelude.{◌++◌, codes};
-ghost use Rattle.iv_print.specs.Writing.{Writes};
+ghost use Rattle.iv_text.specs.Writing.{Writes};
 ghost use Rattle.iv_resolve_reasons.specs.Seen.{reason_seen};
 ghost use Rattle.iv_explain.specs.Explanations.{explanation_text, no_savepoint, not_deferrable, why_text};
 ghost use Rattle.iv_explain.specs.Reasons.{reason_text};
 ghost use Rattle.iv_explain.specs.Seen.{explanation_seen, why_seen};
-ghost use Rattle.iv_print.specs.Spelled.{spelled};
+ghost use Rattle.iv_text.specs.Spelled.{spelled};
 
 use crate::explaining::{Explanation, Why};
 use crate::limits::tell_limit;
@@ -14,8 +14,8 @@ use crate::parts::Part;
 use crate::rules::tell_rule;
 use crate::sentences::tell_three;
 use crate::shapes::tell_shape;
-use iv_print::{DeviceFault, Format, Sink};
 use iv_resolve_reasons::Reason;
+use iv_text::{DeviceFault, Format, Sink};
 
 fn tell_reason<W: Sink>(
     writer: &mut W,

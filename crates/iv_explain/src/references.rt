@@ -1,20 +1,20 @@
 //! What is wrong with the reference of a foreign key.
 ghost use Rattle.std.specs.Prelude.{◌++◌, codes};
-ghost use Rattle.iv_print.specs.Writing.{Writes};
+ghost use Rattle.iv_text.specs.Writing.{Writes};
 ghost use Rattle.iv_resolve_name_faults.specs.Seen.{item_seen};
 ghost use Rattle.iv_resolve_reasons.specs.Seen.{reference_fault_seen};
 ghost use Rattle.iv_resolve_reasons.specs.SchemaFaults.{deferrable_primary_key, no_primary_key, no_reliable_key, pair_count, pair_types, reference_at_fault};
 ghost use Rattle.iv_explain.specs.Reasons.{own_text, reference_text, rule_text};
-ghost use Rattle.iv_print.specs.Spelled.{spelled};
+ghost use Rattle.iv_text.specs.Spelled.{spelled};
 
 use crate::names::tell_item;
 use crate::parts::Part;
 use crate::sentences::{tell_five, tell_four, tell_six, tell_three};
 use crate::shapes::tell_and_typed;
-use iv_print::{DeviceFault, Format, Sink};
 use iv_resolve_name_faults::NamedItem;
 use iv_resolve_reasons::ReferenceFault;
 use iv_syntax::{ColumnType, Name};
+use iv_text::{DeviceFault, Format, Sink};
 
 // So many columns refer to so many others of a table.
 fn tell_pair_count<W: Sink>(
@@ -60,7 +60,7 @@ fn tell_own<W: Sink>(
 }
 
 // A column and the one that it refers to.
-#[tactic(auto, using(iv_print::proofs::SpelledLemmas::spelled_then))]
+#[tactic(auto, using(iv_text::proofs::SpelledLemmas::spelled_then))]
 fn tell_pair<W: Sink>(
     writer: &mut W,
     format: Format,
@@ -163,7 +163,7 @@ fn tell_reference<W: Sink>(
 }
 
 /// A foreign key and what is wrong with its reference.
-#[tactic(auto, using(iv_print::proofs::SpelledLemmas::spelled_then))]
+#[tactic(auto, using(iv_text::proofs::SpelledLemmas::spelled_then))]
 pub fn tell_foreign_key<W: Sink>(
     writer: &mut W,
     format: Format,

@@ -1,21 +1,21 @@
 //! The rule of definitions that a statement breaks.
 ghost use Rattle.std.specs.Prelude.{◌++◌, codes};
-ghost use Rattle.iv_print.specs.Writing.{Writes};
+ghost use Rattle.iv_text.specs.Writing.{Writes};
 ghost use Rattle.iv_resolve_name_faults.specs.Seen.{item_seen};
 ghost use Rattle.iv_resolve_reasons.specs.Seen.{schema_fault_seen};
 ghost use Rattle.iv_resolve_reasons.specs.SchemaFaults.{change_before, columnless_table, contradictory_time, exists_in_check, item_again, row_of_statement, second_primary_key};
 ghost use Rattle.iv_resolve_reasons.specs.SchemaFaults.{set_after, set_of_old, set_of_statement, side_without_rows, table_before, unfit_default};
 ghost use Rattle.iv_explain.specs.Reasons.{rule_text};
-ghost use Rattle.iv_print.specs.Spelled.{spelled};
+ghost use Rattle.iv_text.specs.Spelled.{spelled};
 
 use crate::parts::Part;
 use crate::references::tell_foreign_key;
 use crate::sentences::{tell_five, tell_seven, tell_six, tell_three, tell_two};
 use iv_expr::Side;
-use iv_print::{DeviceFault, Format, Sink};
 use iv_resolve_name_faults::NamedItem;
 use iv_resolve_reasons::SchemaFault;
 use iv_syntax::{ColumnType, Literal, TransitionName, TriggerEvent};
+use iv_text::{DeviceFault, Format, Sink};
 
 // A table without columns.
 fn tell_columnless<W: Sink>(writer: &mut W, format: Format, table: &str) -> Result<(), DeviceFault>

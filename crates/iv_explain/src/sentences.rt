@@ -1,14 +1,14 @@
 //! Sentences of two parts and more.
 ghost use Rattle.std.specs.Prelude.{◌++◌};
-ghost use Rattle.iv_print.specs.Writing.{Writes};
+ghost use Rattle.iv_text.specs.Writing.{Writes};
 ghost use Rattle.iv_explain.specs.Seen.{part_text};
-ghost use Rattle.iv_print.specs.Spelled.{spelled};
+ghost use Rattle.iv_text.specs.Spelled.{spelled};
 
 use crate::parts::{Part, tell_part};
-use iv_print::{DeviceFault, Format, Sink};
+use iv_text::{DeviceFault, Format, Sink};
 
 /// Writes two parts.
-#[tactic(auto, using(iv_print::proofs::SpelledLemmas::spelled_then))]
+#[tactic(auto, using(iv_text::proofs::SpelledLemmas::spelled_then))]
 pub fn tell_two<W: Sink>(
     writer: &mut W,
     format: Format,
@@ -23,7 +23,7 @@ pub fn tell_two<W: Sink>(
 }
 
 /// Writes three parts.
-#[tactic(auto, using(iv_print::proofs::SpelledLemmas::spelled_then))]
+#[tactic(auto, using(iv_text::proofs::SpelledLemmas::spelled_then))]
 pub fn tell_three<W: Sink>(
     writer: &mut W,
     format: Format,
@@ -39,7 +39,7 @@ pub fn tell_three<W: Sink>(
 }
 
 /// Writes four parts.
-#[tactic(auto, using(iv_print::proofs::SpelledLemmas::spelled_then))]
+#[tactic(auto, using(iv_text::proofs::SpelledLemmas::spelled_then))]
 pub fn tell_four<W: Sink>(
     writer: &mut W,
     format: Format,
@@ -56,7 +56,7 @@ pub fn tell_four<W: Sink>(
 }
 
 /// Writes five parts.
-#[tactic(auto, using(iv_print::proofs::SpelledLemmas::spelled_then))]
+#[tactic(auto, using(iv_text::proofs::SpelledLemmas::spelled_then))]
 pub fn tell_five<W: Sink>(
     writer: &mut W,
     format: Format,
@@ -74,7 +74,7 @@ pub fn tell_five<W: Sink>(
 }
 
 /// Writes six parts.
-#[tactic(auto, using(iv_print::proofs::SpelledLemmas::spelled_then))]
+#[tactic(auto, using(iv_text::proofs::SpelledLemmas::spelled_then))]
 pub fn tell_six<W: Sink>(
     writer: &mut W,
     format: Format,
@@ -93,7 +93,7 @@ pub fn tell_six<W: Sink>(
 }
 
 /// Writes seven parts.
-#[tactic(auto, using(iv_print::proofs::SpelledLemmas::spelled_then))]
+#[tactic(auto, using(iv_text::proofs::SpelledLemmas::spelled_then))]
 pub fn tell_seven<W: Sink>(
     writer: &mut W,
     format: Format,

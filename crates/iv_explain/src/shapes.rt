@@ -1,16 +1,16 @@
 //! What doesn't suit in a statement.
 ghost use Rattle.std.specs.Prelude.{◌++◌, codes};
-ghost use Rattle.iv_print.specs.Writing.{Writes};
+ghost use Rattle.iv_text.specs.Writing.{Writes};
 ghost use Rattle.iv_resolve_reasons.specs.Seen.{shape_seen};
 ghost use Rattle.iv_resolve_reasons.specs.Shapes.{comparison_fault, operand_fault, set_fault, tuple_count, value_fault};
 ghost use Rattle.iv_explain.specs.Reasons.{counts_text, shape_text, typed_text};
-ghost use Rattle.iv_print.specs.Spelled.{spelled};
+ghost use Rattle.iv_text.specs.Spelled.{spelled};
 
 use crate::parts::{Part, tell_part};
 use crate::sentences::{tell_five, tell_four, tell_seven, tell_six, tell_two};
-use iv_print::{DeviceFault, Format, Sink, tell};
 use iv_resolve_reasons::ShapeFault;
 use iv_syntax::{ColumnType, Expression};
+use iv_text::{DeviceFault, Format, Sink, tell};
 
 /// Writes a column of a table and its type.
 pub fn tell_typed<W: Sink>(
@@ -58,7 +58,7 @@ fn tell_counts<W: Sink>(
 }
 
 // Words before so many values for so many columns.
-#[tactic(auto, using(iv_print::proofs::SpelledLemmas::spelled_then))]
+#[tactic(auto, using(iv_text::proofs::SpelledLemmas::spelled_then))]
 fn tell_counted<W: Sink>(
     writer: &mut W,
     format: Format,
@@ -74,7 +74,7 @@ fn tell_counted<W: Sink>(
     tell_counts(writer, format, values, columns, table)
 }
 
-#[tactic(auto, using(iv_print::proofs::SpelledLemmas::spelled_then))]
+#[tactic(auto, using(iv_text::proofs::SpelledLemmas::spelled_then))]
 fn tell_tuple<W: Sink>(
     writer: &mut W,
     format: Format,
@@ -92,7 +92,7 @@ fn tell_tuple<W: Sink>(
 }
 
 // What a value is that doesn't suit a column of this type.
-#[tactic(auto, using(iv_print::proofs::SpelledLemmas::spelled_then))]
+#[tactic(auto, using(iv_text::proofs::SpelledLemmas::spelled_then))]
 fn tell_value<W: Sink>(
     writer: &mut W,
     format: Format,
@@ -110,7 +110,7 @@ fn tell_value<W: Sink>(
 }
 
 /// Writes a column and its type after another.
-#[tactic(auto, using(iv_print::proofs::SpelledLemmas::spelled_then))]
+#[tactic(auto, using(iv_text::proofs::SpelledLemmas::spelled_then))]
 pub fn tell_and_typed<W: Sink>(
     writer: &mut W,
     format: Format,
@@ -126,7 +126,7 @@ pub fn tell_and_typed<W: Sink>(
 }
 
 // A column that SELECT * gives, and the one that it doesn't suit.
-#[tactic(auto, using(iv_print::proofs::SpelledLemmas::spelled_then))]
+#[tactic(auto, using(iv_text::proofs::SpelledLemmas::spelled_then))]
 fn tell_star<W: Sink>(
     writer: &mut W,
     format: Format,

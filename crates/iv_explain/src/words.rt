@@ -1,12 +1,12 @@
 //! Words of types, events and sides.
-ghost use Rattle.iv_print.specs.Writing.{Writes};
+ghost use Rattle.iv_text.specs.Writing.{Writes};
 ghost use Rattle.iv_explain.specs.Expressions.{unsuited_text};
 ghost use Rattle.iv_explain.specs.Reasons.{event_text, side_text, what_text};
-ghost use Rattle.iv_print.specs.Spelled.{spelled};
+ghost use Rattle.iv_text.specs.Spelled.{spelled};
 
 use iv_expr::Side;
-use iv_print::{DeviceFault, Format, Sink, tell};
 use iv_syntax::{ColumnType, TransitionName, TriggerEvent};
+use iv_text::{DeviceFault, Format, Sink, tell};
 
 /// Writes what a value is that doesn't suit a column of this type.
 pub fn tell_unsuited<W: Sink>(

@@ -13,3 +13,10 @@ mod Telling
 mod FailuresFound
 mod FailuresOfStatements
 mod RefusalsTold
+pub mod Names
+pub mod Parts
+pub mod Terms
+pub mod Data
+pub mod Tables
+pub mod Triggers
+pub mod Statements

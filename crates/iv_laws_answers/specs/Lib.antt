@@ -6,3 +6,4 @@ pub mod Shapes
 pub mod AccountLaws
 pub mod FailureLaws
 pub mod RefusalLaws
+pub mod WritableLaws

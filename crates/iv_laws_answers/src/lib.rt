@@ -1,8 +1,9 @@
-//! Laws of answers: no statement is answered by OutOfMemory, and only resolution refuses for a wrong shape.
+//! Laws of answers and of what is read: no statement is answered by OutOfMemory, only resolution refuses for a wrong shape, and a text has no other statements.
 #![tactic(auto)]
 
 mod accounts;
 mod laws;
+mod writable;
 
 pub use accounts::{
     accounts_lead_on, accounts_tell_violations, all_that_begins_ends, failures_are_found,
@@ -13,3 +14,4 @@ pub use laws::{
     evaluation_wants_no_memory, queries_are_well_typed, reached_states_fit,
     wrong_shapes_are_of_resolution,
 };
+pub use writable::statements_are_writable;

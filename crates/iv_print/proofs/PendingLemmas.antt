@@ -4,7 +4,7 @@ use Rattle.iv_catalogue.specs.Catalogues.{Schema}
 use Rattle.iv_catalogue.specs.declared.cause.Fault.{Fault}
 use Rattle.iv_machine.specs.declared.answer.Answer.TheVariants.{Done}
 use Rattle.iv_account.specs.declared.entry.Entry.{Entry}
-use Rattle.iv_print.specs.Json.{member}
+use Rattle.iv_text.specs.Json.{member}
 use Rattle.iv_print.specs.JsonAccounts.{entry_list}
 use Rattle.iv_print.specs.PendingLines.{came_member, went_member, went_objects}
 

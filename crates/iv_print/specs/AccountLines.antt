@@ -41,13 +41,13 @@ use Rattle.iv_account.specs.declared.failure.RowAtHand.TheVariants as hand
 use Rattle.iv_account.specs.declared.failure.EvaluatedFor.{EvaluatedFor}
 use Rattle.iv_account.specs.declared.failure.EvaluatedFor.TheVariants as part
 use Rattle.iv_account.specs.declared.failure.FailedEvaluation.{FailedEvaluation}
-use Rattle.iv_print.specs.Conditions.{condition_text}
-use Rattle.iv_print.specs.declared.condition.Shown.TheVariants.{Names, Values}
-use Rattle.iv_print.specs.Rules.{columns_of, described_text}
-pub use Rattle.iv_print.specs.Lines.{table_name, column_name, column_name_in}
-pub use Rattle.iv_print.specs.Ways.{depth_after}
-use Rattle.iv_print.specs.Ways.{limit_line}
-use Rattle.iv_print.specs.Lines.{value_text, values_text, name_of, trigger_text, row_number_text}
+use Rattle.iv_text.specs.Conditions.{condition_text}
+use Rattle.iv_text.specs.declared.condition.Shown.TheVariants.{Names, Values}
+use Rattle.iv_text.specs.Rules.{columns_of, described_text}
+pub use Rattle.iv_text.specs.Lines.{table_name, column_name, column_name_in}
+pub use Rattle.iv_text.specs.Ways.{depth_after}
+use Rattle.iv_text.specs.Ways.{limit_line}
+use Rattle.iv_text.specs.Lines.{value_text, values_text, name_of, trigger_text, row_number_text}
 
 -- two spaces for each
 abbrev pub spaces : ℕ → List ℕ

@@ -38,14 +38,14 @@ use Rattle.iv_account.specs.declared.failure.RowAtHand.TheVariants as hand
 use Rattle.iv_account.specs.declared.failure.EvaluatedFor.{EvaluatedFor}
 use Rattle.iv_account.specs.declared.failure.EvaluatedFor.TheVariants as part
 use Rattle.iv_account.specs.declared.failure.FailedEvaluation.{FailedEvaluation}
-use Rattle.iv_print.specs.Lines.{name_of, trigger_name}
-use Rattle.iv_print.specs.Conditions.{condition_text}
-use Rattle.iv_print.specs.declared.condition.Shown.TheVariants.{Names, Values}
-use Rattle.iv_print.specs.Rules.{columns_of, constraint_words}
+use Rattle.iv_text.specs.Lines.{name_of, trigger_name}
+use Rattle.iv_text.specs.Conditions.{condition_text}
+use Rattle.iv_text.specs.declared.condition.Shown.TheVariants.{Names, Values}
+use Rattle.iv_text.specs.Rules.{columns_of, constraint_words}
 use Rattle.iv_print.specs.AccountLines.{column_name_in, depth_after, ends_next, table_name, truth_name}
-use Rattle.iv_print.specs.Ways.{limit_of, limit_text}
-use Rattle.iv_print.specs.declared.way.Limit.{Limit}
-use Rattle.iv_print.specs.Json.{json_row, json_text, json_value, json_values, key, member}
+use Rattle.iv_text.specs.Ways.{limit_of, limit_text}
+use Rattle.iv_text.specs.declared.way.Limit.{Limit}
+use Rattle.iv_text.specs.Json.{json_row, json_text, json_value, json_values, key, member}
 
 -- ---- rows and changes
 

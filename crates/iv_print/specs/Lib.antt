@@ -1,17 +1,4 @@
-pub mod Counts
-pub mod Sinks
-pub mod Devices
-pub mod Buffering
-pub mod Writing
-pub mod Spelled
-pub mod Lines
-pub mod Conditions
-pub mod Rules
-pub mod Ways
 pub mod AccountLines
-pub mod WorkedConditions
 pub mod WorkedAccounts
-pub mod Causes
-pub mod Json
 pub mod JsonAccounts
 pub mod PendingLines

@@ -7,10 +7,10 @@ use Rattle.iv_catalogue.specs.declared.constraint.Constraint.{Constraint}
 use Rattle.iv_machine.specs.declared.answer.Answer.TheVariants.{Done}
 use Rattle.iv_account.specs.declared.entry.Entry.{Entry}
 use Rattle.iv_account.specs.declared.entry.Entry.TheVariants.{Faulted}
-use Rattle.iv_print.specs.Lines.{name_of}
-use Rattle.iv_print.specs.Rules.{described_text}
+use Rattle.iv_text.specs.Lines.{name_of}
+use Rattle.iv_text.specs.Rules.{described_text}
 use Rattle.iv_print.specs.AccountLines.{fault_rows_text, numbered_text}
-use Rattle.iv_print.specs.Json.{json_text, key, member}
+use Rattle.iv_text.specs.Json.{json_text, key, member}
 use Rattle.iv_print.specs.JsonAccounts.{asked_member, entry_list, place_members}
 
 -- ---- in words

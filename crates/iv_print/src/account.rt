@@ -5,21 +5,15 @@ ghost use Rattle.std.specs.Option.{option_copied};
 ghost use Rattle.iv_value.specs.References.{value_of};
 ghost use Rattle.iv_key.specs.Keys.{key_of};
 ghost use Rattle.iv_machine.specs.BeforeTriggers.{event_of_change};
-ghost use Rattle.iv_print.specs.Writing.{Writes};
-ghost use Rattle.iv_print.specs.Lines.{value_text, further_text, values_text};
+ghost use Rattle.iv_text.specs.Writing.{Writes};
+ghost use Rattle.iv_text.specs.Lines.{value_text, further_text, values_text};
 ghost use Rattle.iv_print.specs.AccountLines.{spaces, indent, table_name, column_name_in, numbered_text, listed_text, side_text, verb, sides_text, change_text, change_line, change_lines, action_words, action_line, action_lines, asked_text, ran_lines, truth_name, skipped_line, nothing_text, began_line, reference_words_of, referenced_text, reference_text, equal_text, key_text, null_text, rule_text, constraint_rule_text, fault_rows_text, fault_line, ends_next, entry_text, entries_text, account_text};
 
 use crate::addition::write_not_added;
 use crate::check::write_check;
 use crate::conflict::write_conflict;
-use crate::device::{DeviceFault, Sink};
 use crate::failure::write_failure;
-use crate::names::{column_in, table_in};
-use crate::outcome::{write_borrowed, write_name, write_row_number, write_trigger, write_values};
-use crate::rule::write_described;
 use crate::standing::write_standing;
-use crate::way::{depth_after, write_limit_line};
-use crate::write::{write_all, write_nothing, write_number};
 use iv_account::{Entry, RowAction, SkippedView, TriggerView};
 use iv_catalogue::{
     Catalogue, Cause, Constraint, ConstraintId, ForeignKey, Refusal, Rule, TriggerId,
@@ -28,9 +22,14 @@ use iv_expr::{Change, Row, StoredRow, TableId};
 use iv_key::{Key, value_at};
 use iv_machine::{Answer, Limits};
 use iv_syntax::ReferentialAction;
+use iv_text::{
+    DeviceFault, Sink, column_in, depth_after, table_in, write_all, write_borrowed,
+    write_described, write_limit_line, write_name, write_nothing, write_number, write_row_number,
+    write_trigger, write_values,
+};
 use iv_value::{Truth, Value, ValueRef};
 
-#[tactic(auto, using(crate::proofs::WriteLemmas::writes_then))]
+#[tactic(auto, using(iv_text::proofs::WriteLemmas::writes_then))]
 fn write_spaces<W: Sink>(sink: &mut W, depth: usize) -> Result<(), DeviceFault>
     ensures { Writes (W.state sink.old) (W.state sink.new) result (spaces depth) }
 {
@@ -43,7 +42,7 @@ fn write_spaces<W: Sink>(sink: &mut W, depth: usize) -> Result<(), DeviceFault>
 }
 
 /// The front of a line.
-#[tactic(auto, using(crate::proofs::WriteLemmas::writes_then))]
+#[tactic(auto, using(iv_text::proofs::WriteLemmas::writes_then))]
 pub(crate) fn write_indent<W: Sink>(sink: &mut W, depth: usize) -> Result<(), DeviceFault>
     ensures { Writes (W.state sink.old) (W.state sink.new) result (indent depth) }
 {
@@ -77,7 +76,7 @@ pub(crate) fn write_column<W: Sink>(
 }
 
 /// A table and the number of a row of it.
-#[tactic(auto, using(crate::proofs::WriteLemmas::writes_then))]
+#[tactic(auto, using(iv_text::proofs::WriteLemmas::writes_then))]
 pub(crate) fn write_numbered<W: Sink>(
     sink: &mut W,
     catalogue: &Catalogue,
@@ -92,7 +91,7 @@ pub(crate) fn write_numbered<W: Sink>(
 }
 
 /// Values in parentheses.
-#[tactic(auto, using(crate::proofs::WriteLemmas::writes_then))]
+#[tactic(auto, using(iv_text::proofs::WriteLemmas::writes_then))]
 pub(crate) fn write_listed<W: Sink>(sink: &mut W, values: &[Value]) -> Result<(), DeviceFault>
     ensures { Writes (W.state sink.old) (W.state sink.new) result (listed_text values.now) }
 {
@@ -102,7 +101,7 @@ pub(crate) fn write_listed<W: Sink>(sink: &mut W, values: &[Value]) -> Result<()
 }
 
 /// A row after these words, where there is one.
-#[tactic(auto, using(crate::proofs::WriteLemmas::writes_then))]
+#[tactic(auto, using(iv_text::proofs::WriteLemmas::writes_then))]
 pub(crate) fn write_side<W: Sink>(
     sink: &mut W,
     words: &[u8],
@@ -132,7 +131,7 @@ fn verb(change: &Change) -> &'static str
 }
 
 // What the row was and is.
-#[tactic(auto, using(crate::proofs::WriteLemmas::writes_then))]
+#[tactic(auto, using(iv_text::proofs::WriteLemmas::writes_then))]
 fn write_sides<W: Sink>(
     sink: &mut W,
     old: &Option<Row>,
@@ -149,7 +148,7 @@ fn write_sides<W: Sink>(
     }
 }
 
-#[tactic(auto, using(crate::proofs::WriteLemmas::writes_then))]
+#[tactic(auto, using(iv_text::proofs::WriteLemmas::writes_then))]
 fn write_change<W: Sink>(
     sink: &mut W,
     catalogue: &Catalogue,
@@ -164,7 +163,7 @@ fn write_change<W: Sink>(
 }
 
 // The line of a change after these words.
-#[tactic(auto, using(crate::proofs::WriteLemmas::writes_then))]
+#[tactic(auto, using(iv_text::proofs::WriteLemmas::writes_then))]
 fn write_change_line<W: Sink>(
     sink: &mut W,
     catalogue: &Catalogue,
@@ -182,7 +181,7 @@ fn write_change_line<W: Sink>(
 }
 
 // A line for each of the changes.
-#[tactic(auto, using(crate::proofs::WriteLemmas::writes_then))]
+#[tactic(auto, using(iv_text::proofs::WriteLemmas::writes_then))]
 fn write_changes<W: Sink>(
     sink: &mut W,
     catalogue: &Catalogue,
@@ -213,7 +212,7 @@ fn action_words(action: ReferentialAction) -> &'static str
     }
 }
 
-#[tactic(auto, using(crate::proofs::WriteLemmas::writes_then))]
+#[tactic(auto, using(iv_text::proofs::WriteLemmas::writes_then))]
 fn write_action<W: Sink>(
     sink: &mut W,
     catalogue: &Catalogue,
@@ -231,7 +230,7 @@ fn write_action<W: Sink>(
 }
 
 // A line for each of the actions.
-#[tactic(auto, using(crate::proofs::WriteLemmas::writes_then))]
+#[tactic(auto, using(iv_text::proofs::WriteLemmas::writes_then))]
 fn write_actions<W: Sink>(
     sink: &mut W,
     catalogue: &Catalogue,
@@ -250,7 +249,7 @@ fn write_actions<W: Sink>(
 }
 
 // A trigger with the rows that it saw.
-#[tactic(auto, using(crate::proofs::WriteLemmas::writes_then))]
+#[tactic(auto, using(iv_text::proofs::WriteLemmas::writes_then))]
 fn write_asked<W: Sink>(
     sink: &mut W,
     catalogue: &Catalogue,
@@ -270,7 +269,7 @@ fn write_asked<W: Sink>(
 }
 
 // A trigger that runs, and what it saw.
-#[tactic(auto, using(crate::proofs::WriteLemmas::writes_then))]
+#[tactic(auto, using(iv_text::proofs::WriteLemmas::writes_then))]
 fn write_ran<W: Sink>(
     sink: &mut W,
     catalogue: &Catalogue,
@@ -304,7 +303,7 @@ pub(crate) fn truth_name(truth: Truth) -> &'static str
 }
 
 // A trigger that is skipped, what it saw, and why.
-#[tactic(auto, using(crate::proofs::WriteLemmas::writes_then))]
+#[tactic(auto, using(iv_text::proofs::WriteLemmas::writes_then))]
 fn write_skipped<W: Sink>(
     sink: &mut W,
     catalogue: &Catalogue,
@@ -327,7 +326,7 @@ fn nothing_text(nothing: bool) -> &'static str
     if nothing { " changes nothing" } else { "" }
 }
 
-#[tactic(auto, using(crate::proofs::WriteLemmas::writes_then))]
+#[tactic(auto, using(iv_text::proofs::WriteLemmas::writes_then))]
 fn write_began<W: Sink>(
     sink: &mut W,
     depth: usize,
@@ -343,7 +342,7 @@ fn write_began<W: Sink>(
     write_all(sink, b"\n")
 }
 
-#[tactic(auto, using(crate::proofs::WriteLemmas::writes_then))]
+#[tactic(auto, using(iv_text::proofs::WriteLemmas::writes_then))]
 fn write_further_borrowed<W: Sink>(sink: &mut W, value: ValueRef<'_>) -> Result<(), DeviceFault>
     ensures { Writes (W.state sink.old) (W.state sink.new) result
         (further_text (value_of value.entry)) }
@@ -353,7 +352,7 @@ fn write_further_borrowed<W: Sink>(sink: &mut W, value: ValueRef<'_>) -> Result<
 }
 
 // The values of further columns, each with its comma.
-#[tactic(auto, using(crate::proofs::WriteLemmas::writes_then))]
+#[tactic(auto, using(iv_text::proofs::WriteLemmas::writes_then))]
 fn write_more_columns<W: Sink>(
     sink: &mut W,
     columns: &[u32],
@@ -371,7 +370,7 @@ fn write_more_columns<W: Sink>(
 }
 
 // The values of some columns.
-#[tactic(auto, using(crate::proofs::WriteLemmas::writes_then))]
+#[tactic(auto, using(iv_text::proofs::WriteLemmas::writes_then))]
 fn write_columns<W: Sink>(sink: &mut W, columns: &[u32], row: &[Value]) -> Result<(), DeviceFault>
     ensures { Writes (W.state sink.old) (W.state sink.new) result
         (values_text (key_of columns.now row.now)) }
@@ -385,7 +384,7 @@ fn write_columns<W: Sink>(sink: &mut W, columns: &[u32], row: &[Value]) -> Resul
     }
 }
 
-#[tactic(auto, using(crate::proofs::WriteLemmas::writes_then))]
+#[tactic(auto, using(iv_text::proofs::WriteLemmas::writes_then))]
 fn write_listed_columns<W: Sink>(
     sink: &mut W,
     columns: &[u32],
@@ -414,7 +413,7 @@ fn reference_words(outcome: &Result<Answer, Refusal>) -> &'static str
 }
 
 /// The table and the key to which a row of these values refers.
-#[tactic(auto, using(crate::proofs::WriteLemmas::writes_then))]
+#[tactic(auto, using(iv_text::proofs::WriteLemmas::writes_then))]
 pub(crate) fn write_referenced<W: Sink>(
     sink: &mut W,
     catalogue: &Catalogue,
@@ -430,7 +429,7 @@ pub(crate) fn write_referenced<W: Sink>(
 }
 
 // The key to which a row refers, and why it doesn't do.
-#[tactic(auto, using(crate::proofs::WriteLemmas::writes_then))]
+#[tactic(auto, using(iv_text::proofs::WriteLemmas::writes_then))]
 fn write_refers<W: Sink>(
     sink: &mut W,
     catalogue: &Catalogue,
@@ -464,7 +463,7 @@ fn write_reference<W: Sink>(
 }
 
 // The row whose key another has.
-#[tactic(auto, using(crate::proofs::WriteLemmas::writes_then))]
+#[tactic(auto, using(iv_text::proofs::WriteLemmas::writes_then))]
 fn write_equal<W: Sink>(sink: &mut W, other: &StoredRow) -> Result<(), DeviceFault>
     ensures { Writes (W.state sink.old) (W.state sink.new) result (equal_text other.now) }
 {
@@ -484,7 +483,7 @@ fn write_key<W: Sink>(sink: &mut W, others: &[StoredRow]) -> Result<(), DeviceFa
 }
 
 // The column that is null.
-#[tactic(auto, using(crate::proofs::WriteLemmas::writes_then))]
+#[tactic(auto, using(iv_text::proofs::WriteLemmas::writes_then))]
 fn write_null<W: Sink>(
     sink: &mut W,
     catalogue: &Catalogue,
@@ -547,7 +546,7 @@ fn write_constraint_rule<W: Sink>(
 }
 
 // The first of the rows, and what is wrong with it.
-#[tactic(auto, using(crate::proofs::WriteLemmas::writes_then))]
+#[tactic(auto, using(iv_text::proofs::WriteLemmas::writes_then))]
 pub(crate) fn write_fault_rows<W: Sink>(
     sink: &mut W,
     catalogue: &Catalogue,
@@ -570,7 +569,7 @@ pub(crate) fn write_fault_rows<W: Sink>(
     }
 }
 
-#[tactic(auto, using(crate::proofs::WriteLemmas::writes_then))]
+#[tactic(auto, using(iv_text::proofs::WriteLemmas::writes_then))]
 fn write_fault<W: Sink>(
     sink: &mut W,
     catalogue: &Catalogue,
@@ -643,7 +642,7 @@ fn write_entry<W: Sink>(
 }
 
 // The lines of the entries.
-#[tactic(auto, using(crate::proofs::WriteLemmas::writes_then))]
+#[tactic(auto, using(iv_text::proofs::WriteLemmas::writes_then))]
 fn write_entries<W: Sink>(
     sink: &mut W,
     catalogue: &Catalogue,
@@ -665,7 +664,7 @@ fn write_entries<W: Sink>(
 
 /// Writes the lines of the account of a statement with this outcome, in a session with these limits, with the names of
 /// tables, columns, constraints and triggers as the catalogue has them. It takes no memory.
-#[tactic(auto, using(crate::proofs::WriteLemmas::writes_then))]
+#[tactic(auto, using(iv_text::proofs::WriteLemmas::writes_then))]
 pub fn write_account<W: Sink>(
     sink: &mut W,
     catalogue: &Catalogue,

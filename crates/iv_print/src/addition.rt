@@ -1,18 +1,16 @@
 //! The line of a constraint that isn't added.
 ghost use Rattle.std.specs.Prelude.{◌≡◌, Some};
 ghost use Rattle.iv_print.specs.AccountLines.{fault_rows_text, not_added_line};
-ghost use Rattle.iv_print.specs.Writing.{Writes};
+ghost use Rattle.iv_text.specs.Writing.{Writes};
 
 use crate::account::{write_indent, write_listed, write_numbered, write_rule};
-use crate::device::{DeviceFault, Sink};
-use crate::rule::write_named;
-use crate::write::{write_all, write_nothing};
 use iv_catalogue::{Catalogue, Constraint, Refusal};
 use iv_expr::StoredRow;
 use iv_machine::Answer;
+use iv_text::{DeviceFault, Sink, write_all, write_named, write_nothing};
 
 // The first of the rows, and what is wrong with it.
-#[tactic(auto, using(crate::proofs::WriteLemmas::writes_then))]
+#[tactic(auto, using(iv_text::proofs::WriteLemmas::writes_then))]
 fn write_rows<W: Sink>(
     sink: &mut W,
     catalogue: &Catalogue,
@@ -34,7 +32,7 @@ fn write_rows<W: Sink>(
 }
 
 /// The line of a constraint that isn't added and of its rows, in the words of a violation.
-#[tactic(auto, using(crate::proofs::WriteLemmas::writes_then))]
+#[tactic(auto, using(iv_text::proofs::WriteLemmas::writes_then))]
 pub(crate) fn write_not_added<W: Sink>(
     sink: &mut W,
     catalogue: &Catalogue,

@@ -1,27 +1,23 @@
 //! What is told of a CHECK whose condition is false.
 ghost use Rattle.std.specs.Prelude.{◌++◌, codes, slice_get};
 ghost use Rattle.iv_print.specs.AccountLines.{check_text};
-ghost use Rattle.iv_print.specs.Conditions.{condition_text};
-ghost use Rattle.iv_print.specs.Rules.{columns_of};
-ghost use Rattle.iv_print.specs.Json.{json_text, member};
+ghost use Rattle.iv_text.specs.Conditions.{condition_text};
+ghost use Rattle.iv_text.specs.Rules.{columns_of};
+ghost use Rattle.iv_text.specs.Json.{json_text, member};
 ghost use Rattle.iv_print.specs.JsonAccounts.{check_members};
-ghost use Rattle.iv_print.specs.Writing.{Writes};
-ghost use Rattle.iv_print.specs.declared.condition.Shown.TheVariants.{Names, Values};
+ghost use Rattle.iv_text.specs.Writing.{Writes};
+ghost use Rattle.iv_text.specs.declared.condition.Shown.TheVariants.{Names, Values};
 
-use crate::condition::{Shown, tell_condition};
-use crate::device::{DeviceFault, Sink};
-use crate::format::Format;
-use crate::json::write_member;
 use crate::json_account::write_because;
-use crate::rule::columns_of;
-use crate::write::write_all;
 use iv_catalogue::{Catalogue, Column};
 use iv_expr::{Cond, TableId};
+use iv_text::json::write_member;
+use iv_text::{DeviceFault, Format, Shown, Sink, columns_of, tell_condition, write_all};
 use iv_value::Value;
 
 // ---- in words
 
-#[tactic(auto, unfolding(crate::specs::Spelled::spelled))]
+#[tactic(auto, unfolding(iv_text::specs::Spelled::spelled))]
 fn write_condition<W: Sink>(
     sink: &mut W,
     shown: Shown,
@@ -36,7 +32,7 @@ fn write_condition<W: Sink>(
 }
 
 // The condition with the values of the row.
-#[tactic(auto, using(crate::proofs::WriteLemmas::writes_then))]
+#[tactic(auto, using(iv_text::proofs::WriteLemmas::writes_then))]
 fn write_with_values<W: Sink>(
     sink: &mut W,
     columns: &[Column],
@@ -51,7 +47,7 @@ fn write_with_values<W: Sink>(
     write_all(sink, b")")
 }
 
-#[tactic(auto, using(crate::proofs::WriteLemmas::writes_then))]
+#[tactic(auto, using(iv_text::proofs::WriteLemmas::writes_then))]
 fn write_false<W: Sink>(
     sink: &mut W,
     columns: &[Column],
@@ -83,7 +79,7 @@ pub(crate) fn write_check<W: Sink>(
 // ---- in JSON
 
 // A condition between its quotes.
-#[tactic(auto, using(crate::proofs::WriteLemmas::writes_then), unfolding(crate::specs::Spelled::spelled, crate::specs::Json::json_text))]
+#[tactic(auto, using(iv_text::proofs::WriteLemmas::writes_then), unfolding(iv_text::specs::Spelled::spelled, iv_text::specs::Json::json_text))]
 fn write_quoted<W: Sink>(
     sink: &mut W,
     shown: Shown,
@@ -99,7 +95,7 @@ fn write_quoted<W: Sink>(
     write_all(sink, b"\"")
 }
 
-#[tactic(auto, using(crate::proofs::WriteLemmas::writes_then))]
+#[tactic(auto, using(iv_text::proofs::WriteLemmas::writes_then))]
 fn write_named<W: Sink>(
     sink: &mut W,
     name: &[u8],
@@ -116,7 +112,7 @@ fn write_named<W: Sink>(
 }
 
 // The condition with the names of the columns, and with the values of the row.
-#[tactic(auto, using(crate::proofs::WriteLemmas::writes_then))]
+#[tactic(auto, using(iv_text::proofs::WriteLemmas::writes_then))]
 fn write_both<W: Sink>(
     sink: &mut W,
     columns: &[Column],
@@ -134,7 +130,7 @@ fn write_both<W: Sink>(
     write_named(sink, b"with_values", Shown::Values, columns, row, condition)
 }
 
-#[tactic(auto, using(crate::proofs::WriteLemmas::writes_then))]
+#[tactic(auto, using(iv_text::proofs::WriteLemmas::writes_then))]
 fn write_members<W: Sink>(
     sink: &mut W,
     columns: &[Column],

@@ -1,17 +1,16 @@
 //! The line of a refusal for two foreign keys that disagree.
 ghost use Rattle.std.specs.Prelude.{◌≡◌, slice_get};
 ghost use Rattle.std.specs.Option.{option_copied};
-ghost use Rattle.iv_print.specs.Writing.{Writes};
+ghost use Rattle.iv_text.specs.Writing.{Writes};
 ghost use Rattle.iv_print.specs.AccountLines.{conflict_line, conflict_text, earlier_text, later_text, refers_text, rule_refers_text, settings_text};
 
 use crate::account::{write_column, write_indent, write_listed, write_numbered, write_referenced};
-use crate::device::{DeviceFault, Sink};
-use crate::outcome::{write_name, write_value};
-use crate::rule::write_described;
-use crate::write::{write_all, write_nothing};
 use iv_account::Disagreement;
 use iv_catalogue::{Catalogue, Constraint, ConstraintId, Rule};
 use iv_expr::{StoredRow, TableId};
+use iv_text::{
+    DeviceFault, Sink, write_all, write_described, write_name, write_nothing, write_value,
+};
 use iv_value::Value;
 
 // The key to which a row of these values refers by a rule.
@@ -47,7 +46,7 @@ fn write_refers<W: Sink>(
 }
 
 // What the earlier foreign key sets a column to.
-#[tactic(auto, using(crate::proofs::WriteLemmas::writes_then))]
+#[tactic(auto, using(iv_text::proofs::WriteLemmas::writes_then))]
 fn write_earlier<W: Sink>(
     sink: &mut W,
     catalogue: &Catalogue,
@@ -66,7 +65,7 @@ fn write_earlier<W: Sink>(
 }
 
 // What this one sets it to.
-#[tactic(auto, using(crate::proofs::WriteLemmas::writes_then))]
+#[tactic(auto, using(iv_text::proofs::WriteLemmas::writes_then))]
 fn write_later<W: Sink>(
     sink: &mut W,
     catalogue: &Catalogue,
@@ -83,7 +82,7 @@ fn write_later<W: Sink>(
 }
 
 // What the earlier foreign key sets a column to, and what this one does.
-#[tactic(auto, using(crate::proofs::WriteLemmas::writes_then))]
+#[tactic(auto, using(iv_text::proofs::WriteLemmas::writes_then))]
 fn write_settings<W: Sink>(
     sink: &mut W,
     catalogue: &Catalogue,
@@ -99,7 +98,7 @@ fn write_settings<W: Sink>(
 }
 
 // The first of the rows, the key to which it refers, and how the foreign keys disagree.
-#[tactic(auto, using(crate::proofs::WriteLemmas::writes_then))]
+#[tactic(auto, using(iv_text::proofs::WriteLemmas::writes_then))]
 fn write_row<W: Sink>(
     sink: &mut W,
     catalogue: &Catalogue,
@@ -127,7 +126,7 @@ fn write_row<W: Sink>(
 }
 
 /// The line of two foreign keys that disagree about a row.
-#[tactic(auto, using(crate::proofs::WriteLemmas::writes_then))]
+#[tactic(auto, using(iv_text::proofs::WriteLemmas::writes_then))]
 pub(crate) fn write_conflict<W: Sink>(
     sink: &mut W,
     catalogue: &Catalogue,

@@ -3,23 +3,21 @@ ghost use Rattle.std.specs.Prelude.{◌≡◌, ◌++◌, codes, decimal};
 ghost use Rattle.std.specs.Fmt.{signed_decimal};
 ghost use Rattle.iv_account.specs.declared.failure.EvaluatedFor.TheVariants as part;
 ghost use Rattle.iv_account.specs.declared.failure.ValueFailure.TheVariants as failure;
-ghost use Rattle.iv_print.specs.Lines.{trigger_text};
-ghost use Rattle.iv_print.specs.Writing.{Writes};
+ghost use Rattle.iv_text.specs.Lines.{trigger_text};
+ghost use Rattle.iv_text.specs.Writing.{Writes};
 ghost use Rattle.iv_print.specs.AccountLines.{evaluated_text, failure_line, failure_text, operator_text, part_in_table, part_name};
 
 use crate::account::{
     write_column, write_indent, write_listed, write_numbered, write_side, write_table,
 };
-use crate::device::{DeviceFault, Sink};
-use crate::outcome::write_trigger;
-use crate::write::{write_all, write_nothing, write_number};
 use itoa::Buffer;
 use iv_account::{EvaluatedFor, FailedEvaluation, Operator, RowAtHand, ValueFailure};
 use iv_catalogue::{Catalogue, TriggerId};
 use iv_expr::TableId;
+use iv_text::{DeviceFault, Sink, write_all, write_nothing, write_number, write_trigger};
 
 // A trigger after these words.
-#[tactic(auto, using(crate::proofs::WriteLemmas::writes_then))]
+#[tactic(auto, using(iv_text::proofs::WriteLemmas::writes_then))]
 fn write_trigger_after<W: Sink>(
     sink: &mut W,
     words: &[u8],
@@ -34,7 +32,7 @@ fn write_trigger_after<W: Sink>(
 }
 
 // The column, the item of a SELECT or the condition that was evaluated.
-#[tactic(auto, using(crate::proofs::WriteLemmas::writes_then))]
+#[tactic(auto, using(iv_text::proofs::WriteLemmas::writes_then))]
 fn write_part<W: Sink>(
     sink: &mut W,
     catalogue: &Catalogue,
@@ -54,7 +52,7 @@ fn write_part<W: Sink>(
 }
 
 // A column with its table.
-#[tactic(auto, using(crate::proofs::WriteLemmas::writes_then))]
+#[tactic(auto, using(iv_text::proofs::WriteLemmas::writes_then))]
 fn write_column_of<W: Sink>(
     sink: &mut W,
     catalogue: &Catalogue,
@@ -87,7 +85,7 @@ fn write_part_in_table<W: Sink>(
 }
 
 // What was evaluated, and the row at hand.
-#[tactic(auto, using(crate::proofs::WriteLemmas::writes_then))]
+#[tactic(auto, using(iv_text::proofs::WriteLemmas::writes_then))]
 fn write_evaluated<W: Sink>(
     sink: &mut W,
     catalogue: &Catalogue,
@@ -142,7 +140,7 @@ fn write_operator<W: Sink>(sink: &mut W, operator: Operator) -> Result<(), Devic
 }
 
 // A number, and what comes after it.
-#[tactic(auto, using(crate::proofs::WriteLemmas::writes_then))]
+#[tactic(auto, using(iv_text::proofs::WriteLemmas::writes_then))]
 fn write_integer_then<W: Sink>(sink: &mut W, number: i64, after: &[u8]) -> Result<(), DeviceFault>
     ensures { Writes (W.state sink.old) (W.state sink.new) result
         (signed_decimal number ++ after.now) }
@@ -152,7 +150,7 @@ fn write_integer_then<W: Sink>(sink: &mut W, number: i64, after: &[u8]) -> Resul
 }
 
 // The operator and the right number.
-#[tactic(auto, using(crate::proofs::WriteLemmas::writes_then))]
+#[tactic(auto, using(iv_text::proofs::WriteLemmas::writes_then))]
 fn write_right<W: Sink>(sink: &mut W, operator: Operator, right: i64) -> Result<(), DeviceFault>
     ensures { Writes (W.state sink.old) (W.state sink.new) result
         (operator_text operator ++ (signed_decimal right ++ codes " is out of range")) }
@@ -161,7 +159,7 @@ fn write_right<W: Sink>(sink: &mut W, operator: Operator, right: i64) -> Result<
     write_integer_then(sink, right, b" is out of range")
 }
 
-#[tactic(auto, using(crate::proofs::WriteLemmas::writes_then))]
+#[tactic(auto, using(iv_text::proofs::WriteLemmas::writes_then))]
 fn write_out_of_range<W: Sink>(
     sink: &mut W,
     left: i64,
@@ -177,7 +175,7 @@ fn write_out_of_range<W: Sink>(
 }
 
 // A number between these words.
-#[tactic(auto, using(crate::proofs::WriteLemmas::writes_then))]
+#[tactic(auto, using(iv_text::proofs::WriteLemmas::writes_then))]
 fn write_between<W: Sink>(
     sink: &mut W,
     before: &[u8],
@@ -193,7 +191,7 @@ fn write_between<W: Sink>(
 }
 
 // Two numbers between these words.
-#[tactic(auto, using(crate::proofs::WriteLemmas::writes_then))]
+#[tactic(auto, using(iv_text::proofs::WriteLemmas::writes_then))]
 fn write_lengths<W: Sink>(
     sink: &mut W,
     before: &[u8],
@@ -230,7 +228,7 @@ fn write_value_failure<W: Sink>(sink: &mut W, failure: ValueFailure) -> Result<(
 }
 
 /// The line of what failed.
-#[tactic(auto, using(crate::proofs::WriteLemmas::writes_then))]
+#[tactic(auto, using(iv_text::proofs::WriteLemmas::writes_then))]
 pub(crate) fn write_failure<W: Sink>(
     sink: &mut W,
     catalogue: &Catalogue,

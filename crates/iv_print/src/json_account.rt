@@ -4,19 +4,14 @@ ghost use Rattle.std.specs.List.{flat_map};
 ghost use Rattle.std.specs.Option.{option_copied};
 ghost use Rattle.iv_value.specs.References.{value_of};
 ghost use Rattle.iv_key.specs.Keys.{key_of};
-ghost use Rattle.iv_print.specs.Writing.{Writes};
+ghost use Rattle.iv_text.specs.Writing.{Writes};
 ghost use Rattle.iv_print.specs.AccountLines.{column_name_in, table_name};
-ghost use Rattle.iv_print.specs.Json.{further_value, json_text, json_values};
+ghost use Rattle.iv_text.specs.Json.{further_value, json_text, json_values};
 ghost use Rattle.iv_print.specs.JsonAccounts.{acted_entry, because, began_entry, begins, changed_entry, changes_nothing, constraint_rule_members, ends, entry_key, entry_list, equal_members, event_member, event_name, further_change, json_account, json_change, json_changes, json_entries, json_entry, key_members, nothing_member, null_members, place_members, ran_entry, reference_members, reference_reason, referenced_members, rule_members, saw_member, seen_members, skipped_entry, skipped_members, separator, side_member, side_members, violation_entry, violation_members};
 ghost use Rattle.iv_machine.specs.BeforeTriggers.{event_of_change};
 
 use crate::account::{ends_next, truth_name};
 use crate::check::write_check_members;
-use crate::device::{DeviceFault, Sink};
-use crate::json::{
-    write_borrowed, write_json_text, write_key, write_member, write_name, write_number_member,
-    write_row, write_text_member, write_trigger_name,
-};
 use crate::json_action::write_actions;
 use crate::json_addition::write_not_added;
 use crate::json_conflict::write_conflict;
@@ -24,9 +19,6 @@ use crate::json_failure::write_failure;
 use crate::json_rule::write_described;
 use crate::json_standing::write_standing;
 use crate::json_way::write_limit_entry;
-use crate::names::{column_in, table_in};
-use crate::way::depth_after;
-use crate::write::{write_all, write_nothing, write_number};
 use iv_account::{Entry, RowAction, SkippedView, TriggerView};
 use iv_catalogue::{
     Catalogue, Cause, Constraint, ConstraintId, ForeignKey, Refusal, Rule, TriggerId,
@@ -34,6 +26,13 @@ use iv_catalogue::{
 use iv_expr::{Change, Row, StoredRow, TableId};
 use iv_key::{Key, value_at};
 use iv_machine::{Answer, Limits};
+use iv_text::json::{
+    write_borrowed, write_json_text, write_key, write_member, write_name, write_number_member,
+    write_row, write_text_member, write_trigger_name,
+};
+use iv_text::{
+    DeviceFault, Sink, column_in, depth_after, table_in, write_all, write_nothing, write_number,
+};
 use iv_value::{Value, ValueRef};
 
 // ---- rows and changes
@@ -51,7 +50,7 @@ pub(crate) fn write_table<W: Sink>(
 }
 
 /// The table and the number of a row.
-#[tactic(auto, using(crate::proofs::WriteLemmas::writes_then))]
+#[tactic(auto, using(iv_text::proofs::WriteLemmas::writes_then))]
 pub(crate) fn write_place<W: Sink>(
     sink: &mut W,
     catalogue: &Catalogue,
@@ -67,7 +66,7 @@ pub(crate) fn write_place<W: Sink>(
 }
 
 /// A row by this name, where there is one.
-#[tactic(auto, using(crate::proofs::WriteLemmas::writes_then))]
+#[tactic(auto, using(iv_text::proofs::WriteLemmas::writes_then))]
 pub(crate) fn write_side<W: Sink>(
     sink: &mut W,
     name: &[u8],
@@ -96,7 +95,7 @@ fn event_name(change: &Change) -> &'static str
     }
 }
 
-#[tactic(auto, using(crate::proofs::WriteLemmas::writes_then))]
+#[tactic(auto, using(iv_text::proofs::WriteLemmas::writes_then))]
 fn write_event<W: Sink>(sink: &mut W, change: &Change) -> Result<(), DeviceFault>
     ensures { Writes (W.state sink.old) (W.state sink.new) result (event_member change.now) }
 {
@@ -105,7 +104,7 @@ fn write_event<W: Sink>(sink: &mut W, change: &Change) -> Result<(), DeviceFault
 }
 
 // What the row was, and what it is.
-#[tactic(auto, using(crate::proofs::WriteLemmas::writes_then))]
+#[tactic(auto, using(iv_text::proofs::WriteLemmas::writes_then))]
 fn write_sides<W: Sink>(sink: &mut W, change: &Change) -> Result<(), DeviceFault>
     ensures { Writes (W.state sink.old) (W.state sink.new) result (side_members change.now) }
 {
@@ -113,7 +112,7 @@ fn write_sides<W: Sink>(sink: &mut W, change: &Change) -> Result<(), DeviceFault
     write_side(sink, b"new", &change.new)
 }
 
-#[tactic(auto, using(crate::proofs::WriteLemmas::writes_then))]
+#[tactic(auto, using(iv_text::proofs::WriteLemmas::writes_then))]
 fn write_change<W: Sink>(
     sink: &mut W,
     catalogue: &Catalogue,
@@ -129,7 +128,7 @@ fn write_change<W: Sink>(
     write_all(sink, b"}")
 }
 
-#[tactic(auto, using(crate::proofs::WriteLemmas::writes_then))]
+#[tactic(auto, using(iv_text::proofs::WriteLemmas::writes_then))]
 fn write_further_change<W: Sink>(
     sink: &mut W,
     catalogue: &Catalogue,
@@ -143,7 +142,7 @@ fn write_further_change<W: Sink>(
 }
 
 // Further changes, each after a comma.
-#[tactic(auto, using(crate::proofs::WriteLemmas::writes_then))]
+#[tactic(auto, using(iv_text::proofs::WriteLemmas::writes_then))]
 fn write_more_changes<W: Sink>(
     sink: &mut W,
     catalogue: &Catalogue,
@@ -160,7 +159,7 @@ fn write_more_changes<W: Sink>(
     Ok(())
 }
 
-#[tactic(auto, using(crate::proofs::WriteLemmas::writes_then))]
+#[tactic(auto, using(iv_text::proofs::WriteLemmas::writes_then))]
 fn write_changes<W: Sink>(
     sink: &mut W,
     catalogue: &Catalogue,
@@ -187,7 +186,7 @@ pub(crate) fn write_because<W: Sink>(sink: &mut W, reason: &[u8]) -> Result<(), 
     write_text_member(sink, b"because", reason)
 }
 
-#[tactic(auto, using(crate::proofs::WriteLemmas::writes_then))]
+#[tactic(auto, using(iv_text::proofs::WriteLemmas::writes_then))]
 fn write_further_borrowed<W: Sink>(sink: &mut W, value: ValueRef<'_>) -> Result<(), DeviceFault>
     ensures { Writes (W.state sink.old) (W.state sink.new) result
         (further_value (value_of value.entry)) }
@@ -197,7 +196,7 @@ fn write_further_borrowed<W: Sink>(sink: &mut W, value: ValueRef<'_>) -> Result<
 }
 
 // The values of further columns, each after a comma.
-#[tactic(auto, using(crate::proofs::WriteLemmas::writes_then))]
+#[tactic(auto, using(iv_text::proofs::WriteLemmas::writes_then))]
 fn write_more_columns<W: Sink>(
     sink: &mut W,
     columns: &[u32],
@@ -215,7 +214,7 @@ fn write_more_columns<W: Sink>(
 }
 
 // The values of some columns.
-#[tactic(auto, using(crate::proofs::WriteLemmas::writes_then))]
+#[tactic(auto, using(iv_text::proofs::WriteLemmas::writes_then))]
 fn write_columns<W: Sink>(sink: &mut W, columns: &[u32], row: &[Value]) -> Result<(), DeviceFault>
     ensures { Writes (W.state sink.old) (W.state sink.new) result
         (json_values (key_of columns.now row.now)) }
@@ -244,7 +243,7 @@ fn reference_reason(outcome: &Result<Answer, Refusal>) -> &'static str
 }
 
 /// The table and the key to which a row of these values refers.
-#[tactic(auto, using(crate::proofs::WriteLemmas::writes_then))]
+#[tactic(auto, using(iv_text::proofs::WriteLemmas::writes_then))]
 pub(crate) fn write_referenced<W: Sink>(
     sink: &mut W,
     catalogue: &Catalogue,
@@ -263,7 +262,7 @@ pub(crate) fn write_referenced<W: Sink>(
 }
 
 // The key to which a row refers, and why it doesn't do.
-#[tactic(auto, using(crate::proofs::WriteLemmas::writes_then))]
+#[tactic(auto, using(iv_text::proofs::WriteLemmas::writes_then))]
 fn write_refers<W: Sink>(
     sink: &mut W,
     catalogue: &Catalogue,
@@ -297,7 +296,7 @@ fn write_reference<W: Sink>(
 }
 
 // The first other row that has the same key.
-#[tactic(auto, using(crate::proofs::WriteLemmas::writes_then))]
+#[tactic(auto, using(iv_text::proofs::WriteLemmas::writes_then))]
 fn write_equal<W: Sink>(sink: &mut W, other: &StoredRow) -> Result<(), DeviceFault>
     ensures { Writes (W.state sink.old) (W.state sink.new) result (equal_members other.now) }
 {
@@ -332,7 +331,7 @@ pub(crate) fn write_column<W: Sink>(
 }
 
 // The column that is null.
-#[tactic(auto, using(crate::proofs::WriteLemmas::writes_then))]
+#[tactic(auto, using(iv_text::proofs::WriteLemmas::writes_then))]
 fn write_null<W: Sink>(
     sink: &mut W,
     catalogue: &Catalogue,
@@ -396,7 +395,7 @@ fn write_constraint_rule<W: Sink>(
 }
 
 // The first of the rows, and what is wrong with it.
-#[tactic(auto, using(crate::proofs::WriteLemmas::writes_then))]
+#[tactic(auto, using(iv_text::proofs::WriteLemmas::writes_then))]
 fn write_violation<W: Sink>(
     sink: &mut W,
     catalogue: &Catalogue,
@@ -423,7 +422,7 @@ fn write_violation<W: Sink>(
 // ---- entries
 
 /// The front of an entry of this kind.
-#[tactic(auto, using(crate::proofs::WriteLemmas::writes_then))]
+#[tactic(auto, using(iv_text::proofs::WriteLemmas::writes_then))]
 pub(crate) fn write_entry_key<W: Sink>(sink: &mut W, kind: &[u8]) -> Result<(), DeviceFault>
     ensures { Writes (W.state sink.old) (W.state sink.new) result (entry_key kind.now) }
 {
@@ -432,7 +431,7 @@ pub(crate) fn write_entry_key<W: Sink>(sink: &mut W, kind: &[u8]) -> Result<(), 
     write_json_text(sink, kind)
 }
 
-#[tactic(auto, using(crate::proofs::WriteLemmas::writes_then))]
+#[tactic(auto, using(iv_text::proofs::WriteLemmas::writes_then))]
 fn write_changed<W: Sink>(
     sink: &mut W,
     catalogue: &Catalogue,
@@ -448,7 +447,7 @@ fn write_changed<W: Sink>(
     write_all(sink, b"]}")
 }
 
-#[tactic(auto, using(crate::proofs::WriteLemmas::writes_then))]
+#[tactic(auto, using(iv_text::proofs::WriteLemmas::writes_then))]
 fn write_acted<W: Sink>(
     sink: &mut W,
     catalogue: &Catalogue,
@@ -465,7 +464,7 @@ fn write_acted<W: Sink>(
 }
 
 // The changes of a trigger's transition tables.
-#[tactic(auto, using(crate::proofs::WriteLemmas::writes_then))]
+#[tactic(auto, using(iv_text::proofs::WriteLemmas::writes_then))]
 fn write_saw<W: Sink>(
     sink: &mut W,
     catalogue: &Catalogue,
@@ -481,7 +480,7 @@ fn write_saw<W: Sink>(
 }
 
 // What a trigger saw.
-#[tactic(auto, using(crate::proofs::WriteLemmas::writes_then))]
+#[tactic(auto, using(iv_text::proofs::WriteLemmas::writes_then))]
 fn write_seen<W: Sink>(
     sink: &mut W,
     catalogue: &Catalogue,
@@ -496,7 +495,7 @@ fn write_seen<W: Sink>(
 }
 
 // A trigger and what it saw.
-#[tactic(auto, using(crate::proofs::WriteLemmas::writes_then))]
+#[tactic(auto, using(iv_text::proofs::WriteLemmas::writes_then))]
 fn write_ran<W: Sink>(
     sink: &mut W,
     catalogue: &Catalogue,
@@ -513,7 +512,7 @@ fn write_ran<W: Sink>(
 }
 
 // What a trigger saw that is skipped, and the truth of its WHEN.
-#[tactic(auto, using(crate::proofs::WriteLemmas::writes_then))]
+#[tactic(auto, using(iv_text::proofs::WriteLemmas::writes_then))]
 fn write_skipped_view<W: Sink>(sink: &mut W, seen: &SkippedView) -> Result<(), DeviceFault>
     ensures { Writes (W.state sink.old) (W.state sink.new) result (skipped_members seen.now) }
 {
@@ -524,7 +523,7 @@ fn write_skipped_view<W: Sink>(sink: &mut W, seen: &SkippedView) -> Result<(), D
 }
 
 // A trigger that is skipped.
-#[tactic(auto, using(crate::proofs::WriteLemmas::writes_then))]
+#[tactic(auto, using(iv_text::proofs::WriteLemmas::writes_then))]
 fn write_skipped<W: Sink>(
     sink: &mut W,
     catalogue: &Catalogue,
@@ -540,7 +539,7 @@ fn write_skipped<W: Sink>(
     write_skipped_view(sink, seen)
 }
 
-#[tactic(auto, using(crate::proofs::WriteLemmas::writes_then))]
+#[tactic(auto, using(iv_text::proofs::WriteLemmas::writes_then))]
 fn write_changes_nothing<W: Sink>(sink: &mut W) -> Result<(), DeviceFault>
     ensures { Writes (W.state sink.old) (W.state sink.new) result changes_nothing }
 {
@@ -559,7 +558,7 @@ fn write_if_nothing<W: Sink>(sink: &mut W, nothing: bool) -> Result<(), DeviceFa
 }
 
 // A nested statement, up to the array of its entries.
-#[tactic(auto, using(crate::proofs::WriteLemmas::writes_then))]
+#[tactic(auto, using(iv_text::proofs::WriteLemmas::writes_then))]
 fn write_began<W: Sink>(sink: &mut W, place: u32, nothing: bool) -> Result<(), DeviceFault>
     ensures { Writes (W.state sink.old) (W.state sink.new) result (began_entry place nothing) }
 {
@@ -571,7 +570,7 @@ fn write_began<W: Sink>(sink: &mut W, place: u32, nothing: bool) -> Result<(), D
     write_all(sink, b"[")
 }
 
-#[tactic(auto, using(crate::proofs::WriteLemmas::writes_then))]
+#[tactic(auto, using(iv_text::proofs::WriteLemmas::writes_then))]
 fn write_faulted<W: Sink>(
     sink: &mut W,
     catalogue: &Catalogue,
@@ -633,7 +632,7 @@ fn separator(first: bool, entry: &Entry) -> &'static [u8]
     }
 }
 
-#[tactic(auto, using(crate::proofs::WriteLemmas::writes_then))]
+#[tactic(auto, using(iv_text::proofs::WriteLemmas::writes_then))]
 fn write_separated<W: Sink>(
     sink: &mut W,
     catalogue: &Catalogue,
@@ -657,7 +656,7 @@ fn begins(entry: &Entry) -> bool
 }
 
 // The ends of so many statements.
-#[tactic(auto, using(crate::proofs::WriteLemmas::writes_then))]
+#[tactic(auto, using(iv_text::proofs::WriteLemmas::writes_then))]
 fn write_ends<W: Sink>(sink: &mut W, depth: usize) -> Result<(), DeviceFault>
     ensures { Writes (W.state sink.old) (W.state sink.new) result (ends depth) }
 {
@@ -669,7 +668,7 @@ fn write_ends<W: Sink>(sink: &mut W, depth: usize) -> Result<(), DeviceFault>
     Ok(())
 }
 
-#[tactic(auto, using(crate::proofs::WriteLemmas::writes_then))]
+#[tactic(auto, using(iv_text::proofs::WriteLemmas::writes_then))]
 fn write_entries<W: Sink>(
     sink: &mut W,
     catalogue: &Catalogue,
@@ -692,7 +691,7 @@ fn write_entries<W: Sink>(
 }
 
 /// Entries in an array, with no entry of a limit behind them.
-#[tactic(auto, using(crate::proofs::WriteLemmas::writes_then))]
+#[tactic(auto, using(iv_text::proofs::WriteLemmas::writes_then))]
 pub(crate) fn write_entry_list<W: Sink>(
     sink: &mut W,
     catalogue: &Catalogue,
@@ -710,7 +709,7 @@ pub(crate) fn write_entry_list<W: Sink>(
 /// Writes the account of a statement with this outcome, in a session with these limits, as a JSON array, with the names
 /// of tables, columns, constraints and triggers as the catalogue has them. The entries of a nested statement are an array
 /// in the entry with which it begins. It takes no memory.
-#[tactic(auto, using(crate::proofs::WriteLemmas::writes_then))]
+#[tactic(auto, using(iv_text::proofs::WriteLemmas::writes_then))]
 pub fn write_json_account<W: Sink>(
     sink: &mut W,
     catalogue: &Catalogue,

@@ -2,15 +2,14 @@
 ghost use Rattle.std.specs.Prelude.{◌≡◌, ◌++◌};
 ghost use Rattle.std.specs.List.{flat_map};
 ghost use Rattle.iv_print.specs.JsonAccounts.{acting_members, action_name, further_action, json_action, json_actions};
-ghost use Rattle.iv_print.specs.Writing.{Writes};
+ghost use Rattle.iv_text.specs.Writing.{Writes};
 
-use crate::device::{DeviceFault, Sink};
-use crate::json::{write_key, write_name, write_text_member};
 use crate::json_account::write_place;
-use crate::write::{write_all, write_nothing};
 use iv_account::RowAction;
 use iv_catalogue::Catalogue;
 use iv_syntax::ReferentialAction;
+use iv_text::json::{write_key, write_name, write_text_member};
+use iv_text::{DeviceFault, Sink, write_all, write_nothing};
 
 fn action_name(action: ReferentialAction) -> &'static str
     ensures { result.now ≡ action_name action }
@@ -25,7 +24,7 @@ fn action_name(action: ReferentialAction) -> &'static str
 }
 
 // The foreign key that acts, and its action.
-#[tactic(auto, using(crate::proofs::WriteLemmas::writes_then))]
+#[tactic(auto, using(iv_text::proofs::WriteLemmas::writes_then))]
 fn write_acting<W: Sink>(
     sink: &mut W,
     catalogue: &Catalogue,
@@ -39,7 +38,7 @@ fn write_acting<W: Sink>(
     write_text_member(sink, b"action", action_name(acted.action).as_bytes())
 }
 
-#[tactic(auto, using(crate::proofs::WriteLemmas::writes_then))]
+#[tactic(auto, using(iv_text::proofs::WriteLemmas::writes_then))]
 fn write_action<W: Sink>(
     sink: &mut W,
     catalogue: &Catalogue,
@@ -54,7 +53,7 @@ fn write_action<W: Sink>(
     write_all(sink, b"}")
 }
 
-#[tactic(auto, using(crate::proofs::WriteLemmas::writes_then))]
+#[tactic(auto, using(iv_text::proofs::WriteLemmas::writes_then))]
 fn write_further_action<W: Sink>(
     sink: &mut W,
     catalogue: &Catalogue,
@@ -68,7 +67,7 @@ fn write_further_action<W: Sink>(
 }
 
 // Further actions, each after a comma.
-#[tactic(auto, using(crate::proofs::WriteLemmas::writes_then))]
+#[tactic(auto, using(iv_text::proofs::WriteLemmas::writes_then))]
 fn write_more_actions<W: Sink>(
     sink: &mut W,
     catalogue: &Catalogue,
@@ -86,7 +85,7 @@ fn write_more_actions<W: Sink>(
 }
 
 /// What foreign keys do to rows, each between commas.
-#[tactic(auto, using(crate::proofs::WriteLemmas::writes_then))]
+#[tactic(auto, using(iv_text::proofs::WriteLemmas::writes_then))]
 pub(crate) fn write_actions<W: Sink>(
     sink: &mut W,
     catalogue: &Catalogue,

@@ -1,19 +1,18 @@
 //! A constraint that isn't added, as JSON.
 ghost use Rattle.std.specs.Prelude.{◌≡◌, Some};
 ghost use Rattle.iv_print.specs.JsonAccounts.{described_members_of, not_added_entry, violation_members};
-ghost use Rattle.iv_print.specs.Writing.{Writes};
+ghost use Rattle.iv_text.specs.Writing.{Writes};
 
-use crate::device::{DeviceFault, Sink};
-use crate::json::{write_json_text, write_member, write_row};
 use crate::json_account::{write_entry_key, write_place, write_rule};
 use crate::json_rule::write_asked_of;
-use crate::write::{write_all, write_nothing};
 use iv_catalogue::{Catalogue, Constraint, Refusal};
 use iv_expr::StoredRow;
 use iv_machine::Answer;
+use iv_text::json::{write_json_text, write_member, write_row};
+use iv_text::{DeviceFault, Sink, write_all, write_nothing};
 
 // The first of the rows, and what is wrong with it.
-#[tactic(auto, using(crate::proofs::WriteLemmas::writes_then))]
+#[tactic(auto, using(iv_text::proofs::WriteLemmas::writes_then))]
 fn write_rows<W: Sink>(
     sink: &mut W,
     catalogue: &Catalogue,
@@ -36,7 +35,7 @@ fn write_rows<W: Sink>(
 }
 
 // The name of the constraint, and what it asks.
-#[tactic(auto, using(crate::proofs::WriteLemmas::writes_then))]
+#[tactic(auto, using(iv_text::proofs::WriteLemmas::writes_then))]
 fn write_described<W: Sink>(
     sink: &mut W,
     catalogue: &Catalogue,
@@ -51,7 +50,7 @@ fn write_described<W: Sink>(
 }
 
 /// The entry of a constraint that isn't added and of its rows, with the members of a violation.
-#[tactic(auto, using(crate::proofs::WriteLemmas::writes_then))]
+#[tactic(auto, using(iv_text::proofs::WriteLemmas::writes_then))]
 pub(crate) fn write_not_added<W: Sink>(
     sink: &mut W,
     catalogue: &Catalogue,

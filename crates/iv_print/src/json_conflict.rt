@@ -1,23 +1,22 @@
 //! A refusal for two foreign keys that disagree, as JSON.
 ghost use Rattle.std.specs.Prelude.{◌≡◌, slice_get};
 ghost use Rattle.std.specs.Option.{option_copied};
-ghost use Rattle.iv_print.specs.Writing.{Writes};
+ghost use Rattle.iv_text.specs.Writing.{Writes};
 ghost use Rattle.iv_print.specs.JsonAccounts.{conflict_entry, conflict_members, refers_members, rule_refers_members, settings_members};
 
-use crate::device::{DeviceFault, Sink};
-use crate::json::{write_member, write_name, write_row, write_value};
 use crate::json_account::{
     write_because, write_column, write_entry_key, write_place, write_referenced,
 };
 use crate::json_rule::write_described;
-use crate::write::{write_all, write_nothing};
 use iv_account::Disagreement;
 use iv_catalogue::{Catalogue, Constraint, ConstraintId, Rule};
 use iv_expr::{StoredRow, TableId};
+use iv_text::json::{write_member, write_name, write_row, write_value};
+use iv_text::{DeviceFault, Sink, write_all, write_nothing};
 use iv_value::Value;
 
 // Why, and the key to which a row of these values refers by a rule.
-#[tactic(auto, using(crate::proofs::WriteLemmas::writes_then))]
+#[tactic(auto, using(iv_text::proofs::WriteLemmas::writes_then))]
 fn write_refers_by<W: Sink>(
     sink: &mut W,
     catalogue: &Catalogue,
@@ -53,7 +52,7 @@ fn write_refers<W: Sink>(
 }
 
 // The earlier foreign key, the column, and what this one and that one set it to.
-#[tactic(auto, using(crate::proofs::WriteLemmas::writes_then))]
+#[tactic(auto, using(iv_text::proofs::WriteLemmas::writes_then))]
 fn write_settings<W: Sink>(
     sink: &mut W,
     catalogue: &Catalogue,
@@ -74,7 +73,7 @@ fn write_settings<W: Sink>(
 }
 
 // The first of the rows, the key to which it refers, and how the foreign keys disagree.
-#[tactic(auto, using(crate::proofs::WriteLemmas::writes_then))]
+#[tactic(auto, using(iv_text::proofs::WriteLemmas::writes_then))]
 fn write_first<W: Sink>(
     sink: &mut W,
     catalogue: &Catalogue,
@@ -100,7 +99,7 @@ fn write_first<W: Sink>(
 }
 
 /// The entry of two foreign keys that disagree about a row.
-#[tactic(auto, using(crate::proofs::WriteLemmas::writes_then))]
+#[tactic(auto, using(iv_text::proofs::WriteLemmas::writes_then))]
 pub(crate) fn write_conflict<W: Sink>(
     sink: &mut W,
     catalogue: &Catalogue,

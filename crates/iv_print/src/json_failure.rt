@@ -4,25 +4,24 @@ ghost use Rattle.std.specs.Fmt.{signed_decimal};
 ghost use Rattle.iv_account.specs.declared.failure.EvaluatedFor.TheVariants as part;
 ghost use Rattle.iv_account.specs.declared.failure.RowAtHand.TheVariants as hand;
 ghost use Rattle.iv_account.specs.declared.failure.ValueFailure.TheVariants as failure;
-ghost use Rattle.iv_print.specs.Writing.{Writes};
+ghost use Rattle.iv_text.specs.Writing.{Writes};
 ghost use Rattle.iv_print.specs.JsonAccounts.{failure_entry, failure_members, hand_members, integer_member, operator_member, operator_sign, part_members, stored_members};
 
-use crate::device::{DeviceFault, Sink};
-use crate::json::{
-    write_json_text, write_member, write_number_member, write_row, write_text_member,
-    write_trigger_name,
-};
 use crate::json_account::{
     write_because, write_column, write_entry_key, write_place, write_side, write_table,
 };
-use crate::write::write_all;
 use itoa::Buffer;
 use iv_account::{EvaluatedFor, FailedEvaluation, Operator, RowAtHand, ValueFailure};
 use iv_catalogue::Catalogue;
 use iv_expr::{StoredRow, TableId};
+use iv_text::json::{
+    write_json_text, write_member, write_number_member, write_row, write_text_member,
+    write_trigger_name,
+};
+use iv_text::{DeviceFault, Sink, write_all};
 
 // The column whose value was evaluated.
-#[tactic(auto, using(crate::proofs::WriteLemmas::writes_then))]
+#[tactic(auto, using(iv_text::proofs::WriteLemmas::writes_then))]
 fn write_column_part<W: Sink>(
     sink: &mut W,
     catalogue: &Catalogue,
@@ -40,7 +39,7 @@ fn write_column_part<W: Sink>(
 }
 
 // What was evaluated.
-#[tactic(auto, using(crate::proofs::WriteLemmas::writes_then))]
+#[tactic(auto, using(iv_text::proofs::WriteLemmas::writes_then))]
 fn write_part<W: Sink>(
     sink: &mut W,
     catalogue: &Catalogue,
@@ -65,7 +64,7 @@ fn write_part<W: Sink>(
 }
 
 // A row with its table and number.
-#[tactic(auto, using(crate::proofs::WriteLemmas::writes_then))]
+#[tactic(auto, using(iv_text::proofs::WriteLemmas::writes_then))]
 fn write_stored<W: Sink>(
     sink: &mut W,
     catalogue: &Catalogue,
@@ -80,7 +79,7 @@ fn write_stored<W: Sink>(
 }
 
 // A row from which an INSERT takes its values.
-#[tactic(auto, using(crate::proofs::WriteLemmas::writes_then))]
+#[tactic(auto, using(iv_text::proofs::WriteLemmas::writes_then))]
 fn write_source<W: Sink>(
     sink: &mut W,
     catalogue: &Catalogue,
@@ -95,7 +94,7 @@ fn write_source<W: Sink>(
 }
 
 // The row at hand.
-#[tactic(auto, using(crate::proofs::WriteLemmas::writes_then))]
+#[tactic(auto, using(iv_text::proofs::WriteLemmas::writes_then))]
 fn write_hand<W: Sink>(
     sink: &mut W,
     catalogue: &Catalogue,
@@ -131,7 +130,7 @@ fn write_integer<W: Sink>(sink: &mut W, number: i64) -> Result<(), DeviceFault>
     write_all(sink, buffer.format(number).as_bytes())
 }
 
-#[tactic(auto, using(crate::proofs::WriteLemmas::writes_then))]
+#[tactic(auto, using(iv_text::proofs::WriteLemmas::writes_then))]
 fn write_integer_member<W: Sink>(sink: &mut W, name: &[u8], number: i64) -> Result<(), DeviceFault>
     ensures { Writes (W.state sink.old) (W.state sink.new) result (integer_member name.now number) }
 {
@@ -145,7 +144,7 @@ fn write_operator<W: Sink>(sink: &mut W, operator: Operator) -> Result<(), Devic
     write_text_member(sink, b"operator", operator_sign(operator).as_bytes())
 }
 
-#[tactic(auto, using(crate::proofs::WriteLemmas::writes_then))]
+#[tactic(auto, using(iv_text::proofs::WriteLemmas::writes_then))]
 fn write_out_of_range<W: Sink>(
     sink: &mut W,
     left: i64,
@@ -162,7 +161,7 @@ fn write_out_of_range<W: Sink>(
 }
 
 // What failed.
-#[tactic(auto, using(crate::proofs::WriteLemmas::writes_then))]
+#[tactic(auto, using(iv_text::proofs::WriteLemmas::writes_then))]
 fn write_value_failure<W: Sink>(sink: &mut W, failure: ValueFailure) -> Result<(), DeviceFault>
     ensures { Writes (W.state sink.old) (W.state sink.new) result (failure_members failure) }
 {
@@ -181,7 +180,7 @@ fn write_value_failure<W: Sink>(sink: &mut W, failure: ValueFailure) -> Result<(
 }
 
 /// The entry of what failed.
-#[tactic(auto, using(crate::proofs::WriteLemmas::writes_then))]
+#[tactic(auto, using(iv_text::proofs::WriteLemmas::writes_then))]
 pub(crate) fn write_failure<W: Sink>(
     sink: &mut W,
     catalogue: &Catalogue,

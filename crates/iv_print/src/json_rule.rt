@@ -1,20 +1,17 @@
 //! A constraint and what it asks, as JSON.
 ghost use Rattle.std.specs.Prelude.{◌++◌, codes, slice_get};
 ghost use Rattle.std.specs.Option.{option_copied};
-ghost use Rattle.iv_print.specs.Json.{json_text};
+ghost use Rattle.iv_text.specs.Json.{json_text};
 ghost use Rattle.iv_print.specs.JsonAccounts.{asked_member, described_members};
-ghost use Rattle.iv_print.specs.Rules.{constraint_words};
-ghost use Rattle.iv_print.specs.Writing.{Writes};
+ghost use Rattle.iv_text.specs.Rules.{constraint_words};
+ghost use Rattle.iv_text.specs.Writing.{Writes};
 
-use crate::device::{DeviceFault, Sink};
-use crate::format::Format;
-use crate::json::{write_member, write_name};
-use crate::rule::tell_constraint;
-use crate::write::{write_all, write_nothing};
 use iv_catalogue::{Catalogue, Constraint, ConstraintId};
+use iv_text::json::{write_member, write_name};
+use iv_text::{DeviceFault, Format, Sink, tell_constraint, write_all, write_nothing};
 
 // What a constraint asks, between its quotes.
-#[tactic(auto, using(crate::proofs::WriteLemmas::writes_then), unfolding(crate::specs::Spelled::spelled, crate::specs::Json::json_text))]
+#[tactic(auto, using(iv_text::proofs::WriteLemmas::writes_then), unfolding(iv_text::specs::Spelled::spelled, iv_text::specs::Json::json_text))]
 fn write_words<W: Sink>(
     sink: &mut W,
     catalogue: &Catalogue,
@@ -29,7 +26,7 @@ fn write_words<W: Sink>(
 }
 
 /// What a constraint asks, if it is there.
-#[tactic(auto, using(crate::proofs::WriteLemmas::writes_then))]
+#[tactic(auto, using(iv_text::proofs::WriteLemmas::writes_then))]
 pub(crate) fn write_asked_of<W: Sink>(
     sink: &mut W,
     catalogue: &Catalogue,
@@ -60,7 +57,7 @@ pub(crate) fn write_asked<W: Sink>(
 }
 
 /// The name of a constraint, and what it asks.
-#[tactic(auto, using(crate::proofs::WriteLemmas::writes_then))]
+#[tactic(auto, using(iv_text::proofs::WriteLemmas::writes_then))]
 pub(crate) fn write_described<W: Sink>(
     sink: &mut W,
     catalogue: &Catalogue,

@@ -2,15 +2,14 @@
 ghost use Rattle.std.specs.Prelude.{◌≡◌};
 ghost use Rattle.std.specs.List.{flat_map};
 ghost use Rattle.iv_print.specs.JsonAccounts.{further_name, json_names, standing_entry};
-ghost use Rattle.iv_print.specs.Writing.{Writes};
+ghost use Rattle.iv_text.specs.Writing.{Writes};
 
-use crate::device::{DeviceFault, Sink};
-use crate::json::{write_json_text, write_member};
 use crate::json_account::write_entry_key;
-use crate::write::{write_all, write_nothing};
 use iv_syntax::Name;
+use iv_text::json::{write_json_text, write_member};
+use iv_text::{DeviceFault, Sink, write_all, write_nothing};
 
-#[tactic(auto, using(crate::proofs::WriteLemmas::writes_then))]
+#[tactic(auto, using(iv_text::proofs::WriteLemmas::writes_then))]
 fn write_further<W: Sink>(sink: &mut W, name: &Name) -> Result<(), DeviceFault>
     ensures { Writes (W.state sink.old) (W.state sink.new) result (further_name name.now) }
 {
@@ -19,7 +18,7 @@ fn write_further<W: Sink>(sink: &mut W, name: &Name) -> Result<(), DeviceFault>
 }
 
 // Further names, each after a comma.
-#[tactic(auto, using(crate::proofs::WriteLemmas::writes_then))]
+#[tactic(auto, using(iv_text::proofs::WriteLemmas::writes_then))]
 fn write_more<W: Sink>(sink: &mut W, names: &[Name]) -> Result<(), DeviceFault>
     ensures { Writes (W.state sink.old) (W.state sink.new) result
         (flat_map further_name names.now) }
@@ -32,7 +31,7 @@ fn write_more<W: Sink>(sink: &mut W, names: &[Name]) -> Result<(), DeviceFault>
     Ok(())
 }
 
-#[tactic(auto, using(crate::proofs::WriteLemmas::writes_then))]
+#[tactic(auto, using(iv_text::proofs::WriteLemmas::writes_then))]
 fn write_names<W: Sink>(sink: &mut W, names: &[Name]) -> Result<(), DeviceFault>
     ensures { Writes (W.state sink.old) (W.state sink.new) result (json_names names.now) }
 {
@@ -46,7 +45,7 @@ fn write_names<W: Sink>(sink: &mut W, names: &[Name]) -> Result<(), DeviceFault>
 }
 
 /// The entry of the savepoints that stand.
-#[tactic(auto, using(crate::proofs::WriteLemmas::writes_then))]
+#[tactic(auto, using(iv_text::proofs::WriteLemmas::writes_then))]
 pub(crate) fn write_standing<W: Sink>(sink: &mut W, names: &[Name]) -> Result<(), DeviceFault>
     ensures { Writes (W.state sink.old) (W.state sink.new) result (standing_entry names.now) }
 {

@@ -1,22 +1,19 @@
 //! The last entry of a statement that is refused for a limit, as JSON.
 ghost use Rattle.std.specs.Prelude.{◌≡◌, ◌++◌, [], Some, None};
-ghost use Rattle.iv_print.specs.Json.{json_text};
+ghost use Rattle.iv_text.specs.Json.{json_text};
 ghost use Rattle.iv_print.specs.JsonAccounts.{limit_entry, limit_object, limit_separator};
-ghost use Rattle.iv_print.specs.Ways.{limit_text};
-ghost use Rattle.iv_print.specs.Writing.{Writes};
+ghost use Rattle.iv_text.specs.Ways.{limit_text};
+ghost use Rattle.iv_text.specs.Writing.{Writes};
 
-use crate::device::{DeviceFault, Sink};
-use crate::format::Format;
-use crate::json::write_member;
 use crate::json_account::write_entry_key;
-use crate::way::{Limit, limit_of, tell_limit};
-use crate::write::{write_all, write_nothing};
 use iv_account::Entry;
 use iv_catalogue::{Catalogue, Refusal};
 use iv_machine::{Answer, Limits};
+use iv_text::json::write_member;
+use iv_text::{DeviceFault, Format, Limit, Sink, limit_of, tell_limit, write_all, write_nothing};
 
 // The words between their quotes.
-#[tactic(auto, using(crate::proofs::WriteLemmas::writes_then), unfolding(crate::specs::Spelled::spelled, crate::specs::Json::json_text))]
+#[tactic(auto, using(iv_text::proofs::WriteLemmas::writes_then), unfolding(iv_text::specs::Spelled::spelled, iv_text::specs::Json::json_text))]
 fn write_text<W: Sink>(
     sink: &mut W,
     catalogue: &Catalogue,
@@ -32,7 +29,7 @@ fn write_text<W: Sink>(
     write_all(sink, b"\"")
 }
 
-#[tactic(auto, using(crate::proofs::WriteLemmas::writes_then))]
+#[tactic(auto, using(iv_text::proofs::WriteLemmas::writes_then))]
 fn write_object<W: Sink>(
     sink: &mut W,
     catalogue: &Catalogue,
@@ -58,7 +55,7 @@ fn separator(entries: &[Entry]) -> &'static [u8]
     }
 }
 
-#[tactic(auto, using(crate::proofs::WriteLemmas::writes_then))]
+#[tactic(auto, using(iv_text::proofs::WriteLemmas::writes_then))]
 fn write_separated<W: Sink>(
     sink: &mut W,
     catalogue: &Catalogue,

@@ -3,24 +3,22 @@ ghost use Rattle.std.specs.Prelude.{◌++◌, codes, slice_get, Ok};
 ghost use Rattle.std.specs.List.{flat_map};
 ghost use Rattle.std.specs.Option.{option_copied};
 ghost use Rattle.iv_machine.specs.declared.answer.Answer.TheVariants.{Done};
-ghost use Rattle.iv_print.specs.Rules.{described_text};
+ghost use Rattle.iv_text.specs.Rules.{described_text};
 ghost use Rattle.iv_print.specs.AccountLines.{fault_rows_text};
-ghost use Rattle.iv_print.specs.Json.{member};
+ghost use Rattle.iv_text.specs.Json.{member};
 ghost use Rattle.iv_print.specs.JsonAccounts.{entry_list};
 ghost use Rattle.iv_print.specs.PendingLines.{came_line, came_member, further_went, pending_lines, pending_members, row_of_members, row_of_text, went_line, went_member, went_object, went_objects};
-ghost use Rattle.iv_print.specs.Writing.{Writes};
+ghost use Rattle.iv_text.specs.Writing.{Writes};
 
 use crate::account::{write_fault_rows, write_numbered};
-use crate::device::{DeviceFault, Sink};
-use crate::json::{write_key, write_member, write_name as write_json_name};
 use crate::json_account::{write_entry_list, write_place};
 use crate::json_rule::write_asked;
-use crate::rule::write_described;
-use crate::write::{write_all, write_nothing};
 use iv_account::Entry;
 use iv_catalogue::{Catalogue, Constraint, ConstraintId, Fault, Refusal};
 use iv_expr::StoredRow;
 use iv_machine::Answer;
+use iv_text::json::{write_key, write_member, write_name as write_json_name};
+use iv_text::{DeviceFault, Sink, write_all, write_described, write_nothing};
 
 // ---- in words
 
@@ -40,7 +38,7 @@ fn write_rows<W: Sink>(
     written
 }
 
-#[tactic(auto, using(crate::proofs::WriteLemmas::writes_then))]
+#[tactic(auto, using(iv_text::proofs::WriteLemmas::writes_then))]
 fn write_violation<W: Sink>(
     sink: &mut W,
     catalogue: &Catalogue,
@@ -76,7 +74,7 @@ fn write_came<W: Sink>(
     }
 }
 
-#[tactic(auto, using(crate::proofs::WriteLemmas::writes_then))]
+#[tactic(auto, using(iv_text::proofs::WriteLemmas::writes_then))]
 fn write_all_came<W: Sink>(
     sink: &mut W,
     catalogue: &Catalogue,
@@ -121,7 +119,7 @@ fn write_row_at<W: Sink>(
     write_row_of(sink, catalogue, catalogue.constraint(constraint), row)
 }
 
-#[tactic(auto, using(crate::proofs::WriteLemmas::writes_then))]
+#[tactic(auto, using(iv_text::proofs::WriteLemmas::writes_then))]
 fn write_went<W: Sink>(
     sink: &mut W,
     catalogue: &Catalogue,
@@ -136,7 +134,7 @@ fn write_went<W: Sink>(
     write_all(sink, b"\n")
 }
 
-#[tactic(auto, using(crate::proofs::WriteLemmas::writes_then))]
+#[tactic(auto, using(iv_text::proofs::WriteLemmas::writes_then))]
 fn write_all_went<W: Sink>(
     sink: &mut W,
     catalogue: &Catalogue,
@@ -154,7 +152,7 @@ fn write_all_went<W: Sink>(
 }
 
 /// Writes the lines of the violations that came, and then of those that went. It takes no memory.
-#[tactic(auto, using(crate::proofs::WriteLemmas::writes_then))]
+#[tactic(auto, using(iv_text::proofs::WriteLemmas::writes_then))]
 pub fn write_pending_lines<W: Sink>(
     sink: &mut W,
     catalogue: &Catalogue,
@@ -184,7 +182,7 @@ fn write_entries<W: Sink>(
     written
 }
 
-#[tactic(auto, using(crate::proofs::WriteLemmas::writes_then))]
+#[tactic(auto, using(iv_text::proofs::WriteLemmas::writes_then))]
 fn write_came_member<W: Sink>(
     sink: &mut W,
     catalogue: &Catalogue,
@@ -217,7 +215,7 @@ fn write_row_members<W: Sink>(
     }
 }
 
-#[tactic(auto, using(crate::proofs::WriteLemmas::writes_then))]
+#[tactic(auto, using(iv_text::proofs::WriteLemmas::writes_then))]
 fn write_went_object<W: Sink>(
     sink: &mut W,
     catalogue: &Catalogue,
@@ -239,7 +237,7 @@ fn write_went_object<W: Sink>(
     write_all(sink, b"}")
 }
 
-#[tactic(auto, using(crate::proofs::WriteLemmas::writes_then))]
+#[tactic(auto, using(iv_text::proofs::WriteLemmas::writes_then))]
 fn write_further_went<W: Sink>(
     sink: &mut W,
     catalogue: &Catalogue,
@@ -252,7 +250,7 @@ fn write_further_went<W: Sink>(
     write_went_object(sink, catalogue, fault)
 }
 
-#[tactic(auto, using(crate::proofs::WriteLemmas::writes_then))]
+#[tactic(auto, using(iv_text::proofs::WriteLemmas::writes_then))]
 fn write_more_went<W: Sink>(
     sink: &mut W,
     catalogue: &Catalogue,
@@ -269,7 +267,7 @@ fn write_more_went<W: Sink>(
     Ok(())
 }
 
-#[tactic(auto, using(crate::proofs::WriteLemmas::writes_then))]
+#[tactic(auto, using(iv_text::proofs::WriteLemmas::writes_then))]
 fn write_went_objects<W: Sink>(
     sink: &mut W,
     catalogue: &Catalogue,
@@ -287,7 +285,7 @@ fn write_went_objects<W: Sink>(
     }
 }
 
-#[tactic(auto, using(crate::proofs::WriteLemmas::writes_then))]
+#[tactic(auto, using(iv_text::proofs::WriteLemmas::writes_then))]
 fn write_went_list<W: Sink>(
     sink: &mut W,
     catalogue: &Catalogue,
@@ -317,7 +315,7 @@ fn write_went_member<W: Sink>(
 }
 
 /// Writes the members of the violations that came and of those that went; none if there are none. It takes no memory.
-#[tactic(auto, using(crate::proofs::WriteLemmas::writes_then))]
+#[tactic(auto, using(iv_text::proofs::WriteLemmas::writes_then))]
 pub fn write_pending_members<W: Sink>(
     sink: &mut W,
     catalogue: &Catalogue,

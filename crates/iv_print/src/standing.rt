@@ -2,14 +2,13 @@
 ghost use Rattle.std.specs.Prelude.{◌≡◌, ◌++◌};
 ghost use Rattle.std.specs.List.{flat_map};
 ghost use Rattle.iv_print.specs.AccountLines.{further_savepoint, standing_line, standing_words};
-ghost use Rattle.iv_print.specs.Writing.{Writes};
+ghost use Rattle.iv_text.specs.Writing.{Writes};
 
 use crate::account::write_indent;
-use crate::device::{DeviceFault, Sink};
-use crate::write::write_all;
 use iv_syntax::Name;
+use iv_text::{DeviceFault, Sink, write_all};
 
-#[tactic(auto, using(crate::proofs::WriteLemmas::writes_then))]
+#[tactic(auto, using(iv_text::proofs::WriteLemmas::writes_then))]
 fn write_further<W: Sink>(sink: &mut W, name: &Name) -> Result<(), DeviceFault>
     ensures { Writes (W.state sink.old) (W.state sink.new) result (further_savepoint name.now) }
 {
@@ -18,7 +17,7 @@ fn write_further<W: Sink>(sink: &mut W, name: &Name) -> Result<(), DeviceFault>
 }
 
 // Further names, each after a comma.
-#[tactic(auto, using(crate::proofs::WriteLemmas::writes_then))]
+#[tactic(auto, using(iv_text::proofs::WriteLemmas::writes_then))]
 fn write_more<W: Sink>(sink: &mut W, names: &[Name]) -> Result<(), DeviceFault>
     ensures { Writes (W.state sink.old) (W.state sink.new) result
         (flat_map further_savepoint names.now) }
@@ -32,7 +31,7 @@ fn write_more<W: Sink>(sink: &mut W, names: &[Name]) -> Result<(), DeviceFault>
 }
 
 // These words, the first name, and further ones.
-#[tactic(auto, using(crate::proofs::WriteLemmas::writes_then))]
+#[tactic(auto, using(iv_text::proofs::WriteLemmas::writes_then))]
 fn write_names<W: Sink>(
     sink: &mut W,
     words: &[u8],
@@ -57,7 +56,7 @@ fn write_words<W: Sink>(sink: &mut W, names: &[Name]) -> Result<(), DeviceFault>
 }
 
 /// The line of the savepoints that stand.
-#[tactic(auto, using(crate::proofs::WriteLemmas::writes_then))]
+#[tactic(auto, using(iv_text::proofs::WriteLemmas::writes_then))]
 pub(crate) fn write_standing<W: Sink>(
     sink: &mut W,
     depth: usize,

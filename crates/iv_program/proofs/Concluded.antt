@@ -1,7 +1,7 @@
 -- What is known by the status of a script that was dumped or laid out.
 use Rattle.std.proofs.Common.{◌≡◌, ◌≢◌, ◌<◌, ◌==◌, ◌&&◌, not, if◌then◌else◌, Bool, true, false, ℕ, List, Option, Some, None, Result, Ok, Err, IfErr, IfOk, IfSome, OnErr, OnOk, MatchResult, is_none, refl, sym, ap, ◌∙◌, subst, arith}
 use Rattle.iv_machine.specs.Bounds.{Bounds}
-use Rattle.iv_print.specs.Sinks.{SinkState}
+use Rattle.iv_text.specs.Sinks.{SinkState}
 use Rattle.iv_program.specs.declared.notes.Notes.{Notes}
 use Rattle.iv_program.specs.declared.notes.Stop.{Stop}
 use Rattle.iv_program.specs.Notes.{TellsNotes, TellsStop, are_none, fault_alone, notes_status}

@@ -1,8 +1,8 @@
 -- What is known where the status is 2.
 use Rattle.std.proofs.Common.{◌≡◌, ◌≢◌, ◌<◌, ◌≤◌, ◌==◌, ◌&&◌, if◌then◌else◌, Bool, true, false, ℕ, List, length, Option, Result, Ok, Err, IfErr, IfSome, IsErrOf, MatchResult, is_none, refl, sym, ap, ◌∙◌, arith, rules}
 use Rattle.std.specs.Str.{IsUtf8}
-use Rattle.iv_print.specs.Counts.{counted}
-use Rattle.iv_print.specs.Sinks.{SinkState, FailsOnce}
+use Rattle.iv_text.specs.Counts.{counted}
+use Rattle.iv_text.specs.Sinks.{SinkState, FailsOnce}
 use Rattle.iv_script.specs.Lengths.{Fits}
 use Rattle.iv_script.specs.declared.summary.RunFault.{RunFault}
 use Rattle.iv_script.specs.declared.summary.RunFault.TheVariants.{Read, TooLong, NotUtf8, Write, NoMemory}

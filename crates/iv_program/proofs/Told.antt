@@ -1,8 +1,8 @@
 -- What is told of a script.
 use Rattle.std.proofs.Common.{◌≡◌, ℕ, zero, suc, Bool, false, Result, MatchBool, refl, sym, subst, ◌∙◌}
-use Rattle.iv_print.specs.Sinks.{SinkState}
-use Rattle.iv_print.specs.Writing.{Writes}
-use Rattle.iv_print.specs.declared.device.DeviceFault.{DeviceFault}
+use Rattle.iv_text.specs.Sinks.{SinkState}
+use Rattle.iv_text.specs.Writing.{Writes}
+use Rattle.iv_text.specs.declared.device.DeviceFault.{DeviceFault}
 use Rattle.iv_program.specs.declared.notes.Notes.{Notes}
 use Rattle.iv_program.specs.Notes.{TellsNotes, are_none, notes_text, refused_note, some_refused_note}
 

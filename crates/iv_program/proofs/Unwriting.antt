@@ -5,8 +5,8 @@ use Rattle.iv_syntax.specs.declared.statement.Statement.{Statement}
 use Rattle.iv_parse.specs.declared.parser.SyntaxFault.{SyntaxFault}
 use Rattle.iv_parse.specs.Script.{IsFault, IsScript}
 use Rattle.iv_machine.specs.Bounds.{Bounds}
-use Rattle.iv_print.specs.Counts.{counted}
-use Rattle.iv_print.specs.Sinks.{SinkState}
+use Rattle.iv_text.specs.Counts.{counted}
+use Rattle.iv_text.specs.Sinks.{SinkState}
 use Rattle.iv_script.specs.Lengths.{Fits}
 use Rattle.iv_script.specs.declared.summary.RunFault.{RunFault}
 use Rattle.iv_script.specs.declared.summary.RunFault.TheVariants.{Read, TooLong, NotUtf8, Write, NoMemory}

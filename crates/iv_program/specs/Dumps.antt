@@ -8,7 +8,7 @@ use Rattle.iv_dump.specs.Dumps.{AreDump}
 use Rattle.iv_dump.specs.Scripts.{AreShort}
 use Rattle.iv_dump.specs.declared.refusal.DumpRefusal.{DumpRefusal}
 use Rattle.iv_dump.specs.declared.refusal.DumpRefusal.TheVariants as refusal
-use Rattle.iv_print.specs.Sinks.{SinkState}
+use Rattle.iv_text.specs.Sinks.{SinkState}
 use Rattle.iv_script.specs.declared.summary.RunFault.TheVariants.{NoMemory}
 use Rattle.iv_program.specs.declared.notes.Notes.{Notes}
 use Rattle.iv_program.specs.declared.notes.Stop.{Stop}

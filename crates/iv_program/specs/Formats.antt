@@ -2,7 +2,7 @@
 use Rattle.std.specs.Prelude.{◌≡◌, ℕ, List, Option, Some, None}
 use Rattle.std.specs.Io.KnownBytes.{Appends}
 use Rattle.iv_syntax.specs.declared.statement.Statement.{Statement}
-use Rattle.iv_print.specs.Sinks.{SinkState}
+use Rattle.iv_text.specs.Sinks.{SinkState}
 use Rattle.iv_write.specs.Layouts.{text_of}
 use Rattle.iv_write.specs.Scripts.{SaysScript}
 use Rattle.iv_write.specs.Statements.{script_words}

@@ -1,8 +1,8 @@
 -- What standard error is told of a script that is dumped or laid out, and the status.
 use Rattle.std.specs.Prelude.{◌≡◌, ℕ, zero, suc, ◌==◌, ◌&&◌, not, Bool, true, false, if◌then◌else◌, List, [], ◌++◌, codes, decimal, Option, Some, None, is_none, Result, MatchBool}
-use Rattle.iv_print.specs.Sinks.{SinkState}
-use Rattle.iv_print.specs.Writing.{Writes}
-use Rattle.iv_print.specs.declared.device.DeviceFault.{DeviceFault}
+use Rattle.iv_text.specs.Sinks.{SinkState}
+use Rattle.iv_text.specs.Writing.{Writes}
+use Rattle.iv_text.specs.declared.device.DeviceFault.{DeviceFault}
 use Rattle.iv_script.specs.RunFaults.{run_fault_text}
 use Rattle.iv_script.specs.declared.place.Place.{Place}
 use Rattle.iv_program.specs.declared.script.ScriptFault.{ScriptFault}

@@ -2,11 +2,11 @@
 use Rattle.std.specs.Prelude.{◌≡◌, ℕ, ◌<◌, ◌≤◌, ◌==◌, ◌&&◌, Bool, if◌then◌else◌, List, ◌++◌, codes, length, Option, Result, is_none, IfSome}
 use Rattle.std.specs.Str.{IsUtf8}
 use Rattle.iv_machine.specs.Bounds.{Bounds}
-use Rattle.iv_print.specs.Counts.{counted}
-use Rattle.iv_print.specs.Sinks.{SinkState, FailsOnce}
-use Rattle.iv_print.specs.Writing.{Writes}
-use Rattle.iv_print.specs.declared.format.Style.{Style}
-use Rattle.iv_print.specs.declared.device.DeviceFault.{DeviceFault}
+use Rattle.iv_text.specs.Counts.{counted}
+use Rattle.iv_text.specs.Sinks.{SinkState, FailsOnce}
+use Rattle.iv_text.specs.Writing.{Writes}
+use Rattle.iv_text.specs.declared.format.Style.{Style}
+use Rattle.iv_text.specs.declared.device.DeviceFault.{DeviceFault}
 use Rattle.iv_script.specs.Lengths.{Fits}
 use Rattle.iv_script.specs.RunFaults.{run_fault_text}
 use Rattle.iv_script.specs.Transcript.{RanScript}

@@ -1,6 +1,6 @@
 -- Why a script is not dumped or laid out.
 use Rattle.std.specs.Prelude.{◌≡◌, ℕ, List, Option, IfSome}
-use Rattle.iv_print.specs.Sinks.{SinkState, FailsOnce}
+use Rattle.iv_text.specs.Sinks.{SinkState, FailsOnce}
 use Rattle.iv_script.specs.Lengths.{Fits}
 use Rattle.iv_script.specs.declared.summary.RunFault.TheVariants.{NoMemory, Write}
 use Rattle.iv_program.specs.declared.notes.Stop.{Stop}

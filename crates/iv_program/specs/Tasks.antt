@@ -1,7 +1,7 @@
 -- What a command line asks for.
 use Rattle.std.specs.Prelude.{Bool, true, false, ◌||◌, if◌then◌else◌, Option, Some, None}
-use Rattle.iv_print.specs.declared.format.Format.TheVariants.{Words, Json}
-use Rattle.iv_print.specs.declared.format.Style.{Style}
+use Rattle.iv_text.specs.declared.format.Format.TheVariants.{Words, Json}
+use Rattle.iv_text.specs.declared.format.Style.{Style}
 use Rattle.iv_program.specs.declared.task.Task.{Task}
 use Rattle.iv_program.specs.declared.task.Task.TheVariants.{Transcript, Dump, Format}
 

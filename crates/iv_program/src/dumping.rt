@@ -1,8 +1,8 @@
 //! A dump of the database that a script leaves.
 ghost use Rattle.std.specs.Prelude.{◌≡◌, ◌<◌, ◌≤◌, IfErr, IfOk, IfSome, OnErr, OnOk, flat_map, is_some, string_bytes};
 ghost use Rattle.iv_machine.specs.Machine.{empty_state};
-ghost use Rattle.iv_print.specs.Sinks.{FailsNever, FailsOnce};
-ghost use Rattle.iv_print.specs.Writing.{Writes};
+ghost use Rattle.iv_text.specs.Sinks.{FailsNever, FailsOnce};
+ghost use Rattle.iv_text.specs.Writing.{Writes};
 ghost use Rattle.iv_script.specs.Lengths.{Fits};
 ghost use Rattle.iv_program.specs.Dumps.{Dumped, Dumps, DumpsUnless, LeavesDump, WritesDump, stop_of};
 ghost use Rattle.iv_program.specs.Executing.{Does, Leaves, refused_of, rolled_back};
@@ -13,10 +13,10 @@ use crate::notes::{Notes, Stop, conclude, fault_alone};
 use crate::script::{ScriptFault, read_script};
 use iv_dump::{DumpRefusal, dump};
 use iv_machine::Limits;
-use iv_print::{DeviceFault, Sink, Source, write_all};
 use iv_script::{LONGEST, RunFault};
 use iv_step::{Executor, Outcome};
 use iv_syntax::Statement;
+use iv_text::{DeviceFault, Sink, Source, write_all};
 use std::alloc::Global;
 
 // One if the statement was refused.

@@ -1,6 +1,6 @@
 //! A script in one layout.
 ghost use Rattle.std.specs.Prelude.{◌≡◌, ◌<◌, ◌≤◌, IfErr, IfOk, IfSome, OnErr, OnOk};
-ghost use Rattle.iv_print.specs.Sinks.{FailsNever, FailsOnce};
+ghost use Rattle.iv_text.specs.Sinks.{FailsNever, FailsOnce};
 ghost use Rattle.iv_script.specs.Lengths.{Fits};
 ghost use Rattle.iv_write.specs.Scripts.{AllCanBeWritten};
 ghost use Rattle.iv_program.specs.Formats.{Formats, Formatted, IsLaidOut, LaysOut};
@@ -9,9 +9,9 @@ ghost use Rattle.iv_program.specs.Stopping.{StoppedBy, Unwritten};
 
 use crate::notes::{Notes, Stop, conclude, fault_alone};
 use crate::script::{Script, ScriptFault, read_script};
-use iv_print::{Sink, Source, write_all};
 use iv_script::{LONGEST, RunFault};
 use iv_syntax::Statement;
+use iv_text::{Sink, Source, write_all};
 use iv_write::write_script;
 use std::alloc::Global;
 

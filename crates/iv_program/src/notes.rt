@@ -1,11 +1,11 @@
 //! What standard error is told of a script that is dumped or laid out.
 ghost use Rattle.std.specs.Prelude.{◌≡◌, ◌++◌, ◌≤◌, MatchResult, IfErr, IfOk, true};
-ghost use Rattle.iv_print.specs.Writing.{Writes};
+ghost use Rattle.iv_text.specs.Writing.{Writes};
 ghost use Rattle.iv_program.specs.Notes.{are_none, fault_alone, fault_note, notes_status, notes_text, open_note, place_note, refused_note, some_fault_note, some_refused_note, stop_line, stop_text, TellsNotes, TellsStop};
 
 use crate::script::ScriptFault;
-use iv_print::{DeviceFault, Sink, write_all, write_nothing, write_number};
 use iv_script::{Place, RunFault};
+use iv_text::{DeviceFault, Sink, write_all, write_nothing, write_number};
 use std::alloc::AllocError;
 
 /// What there is to tell of a script that was read.
@@ -62,7 +62,7 @@ impl Stop {
     }
 }
 
-#[tactic(auto, using(iv_print::proofs::WriteLemmas::writes_then))]
+#[tactic(auto, using(iv_text::proofs::WriteLemmas::writes_then))]
 fn write_place<E: Sink>(faults: &mut E, place: Place) -> Result<(), DeviceFault>
     ensures { Writes (E.state faults.old) (E.state faults.new) result (place_note place) }
 {
@@ -117,7 +117,7 @@ fn write_open<E: Sink>(faults: &mut E, is_open: bool) -> Result<(), DeviceFault>
     }
 }
 
-#[tactic(auto, using(iv_print::proofs::WriteLemmas::writes_then))]
+#[tactic(auto, using(iv_text::proofs::WriteLemmas::writes_then))]
 fn write_notes<E: Sink>(faults: &mut E, notes: Notes) -> Result<(), DeviceFault>
     ensures { Writes (E.state faults.old) (E.state faults.new) result (notes_text notes) }
 {
@@ -126,7 +126,7 @@ fn write_notes<E: Sink>(faults: &mut E, notes: Notes) -> Result<(), DeviceFault>
     write_open(faults, notes.is_open)
 }
 
-#[tactic(auto, using(iv_print::proofs::WriteLemmas::writes_then))]
+#[tactic(auto, using(iv_text::proofs::WriteLemmas::writes_then))]
 fn write_stop<E: Sink>(faults: &mut E, stop: &Stop) -> Result<(), DeviceFault>
     ensures { Writes (E.state faults.old) (E.state faults.new) result (stop_line stop.now) }
 {

@@ -1,14 +1,14 @@
 //! A script that is run: its transcript, its status, and the line of what stopped it.
 ghost use Rattle.std.specs.Prelude.{◌≡◌, ◌<◌, ◌≤◌, IfErr, IfSome, MatchResult};
-ghost use Rattle.iv_print.specs.Sinks.{FailsOnce, FailsNever};
-ghost use Rattle.iv_print.specs.Writing.{Writes};
+ghost use Rattle.iv_text.specs.Sinks.{FailsOnce, FailsNever};
+ghost use Rattle.iv_text.specs.Writing.{Writes};
 ghost use Rattle.iv_script.specs.Lengths.{Fits};
 ghost use Rattle.iv_program.specs.Statuses.{status_of, stop_line, Stopped, WritesLine, WroteTranscript};
 
 use iv_machine::Limits;
-use iv_print::{Style, write_all};
 use iv_script::{DeviceFault, LONGEST, RunFault, Sink, Source, Summary, run};
 use iv_step::Executor;
+use iv_text::{Style, write_all};
 use std::alloc::Global;
 
 // Writes the line of a fault.

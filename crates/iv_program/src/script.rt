@@ -1,15 +1,15 @@
 //! A script that is read and not run.
 ghost use Rattle.std.specs.Prelude.{◌≡◌, ◌≢◌, ◌+◌, ◌-◌, ◌<◌, ◌≤◌, ◌^◌, List, ℕ, length, option_map, IfErr, IfOk, IfSome, IsErrOf, OnErr, OnOk};
 ghost use Rattle.std.specs.Str.{IsUtf8};
-ghost use Rattle.iv_print.specs.Counts.{counted};
+ghost use Rattle.iv_text.specs.Counts.{counted};
 ghost use Rattle.iv_script.specs.Lengths.{Fits};
 ghost use Rattle.iv_write.specs.Scripts.{AllCanBeWritten};
 ghost use Rattle.iv_program.specs.Reads.{IsRead, RefusesBytes, Unread, fault_seen};
 
 use iv_parse::{Parsed, SyntaxFault, script};
-use iv_print::Source;
 use iv_script::{LONGEST, Place, RunFault, place_at};
 use iv_syntax::Statement;
+use iv_text::Source;
 use iv_write::laws::what_is_read_can_be_written;
 use std::alloc::Global;
 use std::str::from_utf8;

@@ -2,7 +2,7 @@
 ghost use Rattle.std.specs.Prelude.{◌≡◌};
 ghost use Rattle.iv_program.specs.Tasks.{style_of, task_by, task_of};
 
-use iv_print::{Format, Style};
+use iv_text::{Format, Style};
 
 /// What is written of a script.
 #[derive(Clone, Copy, Debug, PartialEq, Eq)]

@@ -18,10 +18,10 @@ use Rattle.iv_resolution.specs.Resolution.{resolution}
 use Rattle.iv_step.specs.Step.{Executes, step, takes_no_memory}
 use Rattle.iv_step.specs.Sure.{is_rollback_to, never_refused}
 use Rattle.iv_step.specs.Telling.{Tells, may_be_untold, statement_told}
-use Rattle.iv_print.specs.declared.format.Style.{Style}
-use Rattle.iv_print.specs.Sinks.{SinkState, FailsNever}
-use Rattle.iv_print.specs.Writing.{Writes}
-use Rattle.iv_print.proofs.WriteLemmas.{never_then}
+use Rattle.iv_text.specs.declared.format.Style.{Style}
+use Rattle.iv_text.specs.Sinks.{SinkState, FailsNever}
+use Rattle.iv_text.specs.Writing.{Writes}
+use Rattle.iv_text.proofs.WriteLemmas.{never_then}
 use Rattle.iv_script.specs.declared.statements.Tally.{Tally}
 use Rattle.iv_script.specs.Transcript.{Memory, IsDue, AreDue, granted, denied, untold, unlisted, Ran, following, outcome, lines, lines_in, news_after, news_where, news_with, no_news, accepted_of, refused_of, run_from, told_with, memory_refusals, untold_accounts}
 use Rattle.iv_script.specs.Transcript as spec

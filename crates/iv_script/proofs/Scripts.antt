@@ -9,10 +9,10 @@ use Rattle.iv_parse.specs.Script.{IsFault, IsScript}
 use Rattle.iv_machine.specs.Bounds.{Bounds}
 use Rattle.iv_machine.specs.Machine.{State, empty_state}
 use Rattle.iv_step.specs.Step.{step}
-use Rattle.iv_print.specs.Sinks.{SinkState}
-use Rattle.iv_print.specs.declared.format.Style.{Style}
-use Rattle.iv_print.specs.Writing.{Writes}
-use Rattle.iv_print.proofs.WriteLemmas.{never_then}
+use Rattle.iv_text.specs.Sinks.{SinkState}
+use Rattle.iv_text.specs.declared.format.Style.{Style}
+use Rattle.iv_text.specs.Writing.{Writes}
+use Rattle.iv_text.proofs.WriteLemmas.{never_then}
 use Rattle.iv_parse.specs.declared.parser.SyntaxFault.{SyntaxFault}
 use Rattle.iv_script.specs.declared.statements.Tally.{Tally}
 use Rattle.iv_script.specs.declared.summary.Summary.{Summary}

@@ -14,7 +14,7 @@ use Rattle.iv_catalogue.specs.declared.cause.Refusal.{Refusal}
 use Rattle.iv_machine.specs.Bounds.{Bounds}
 use Rattle.iv_machine.specs.declared.answer.Answer.{Answer}
 use Rattle.iv_account.specs.declared.entry.Entry.{Entry}
-use Rattle.iv_print.specs.Json.{json_text, key, kind_member, member, outcome_members}
+use Rattle.iv_text.specs.Json.{json_text, key, kind_member, member, outcome_members}
 use Rattle.iv_print.specs.JsonAccounts.{json_account}
 use Rattle.iv_print.specs.PendingLines.{pending_members}
 use Rattle.iv_explain.specs.Columns.{columns_member}

@@ -5,8 +5,8 @@ use Rattle.iv_parse.specs.declared.parser.SyntaxFault.{SyntaxFault}
 use Rattle.iv_syntax.specs.declared.statement.Statement.{Statement}
 use Rattle.iv_catalogue.specs.declared.cause.Fault.{Fault}
 use Rattle.iv_machine.specs.Machine.{State}
-use Rattle.iv_print.specs.Sinks.{SinkState, FailsNever}
-use Rattle.iv_print.specs.declared.format.Style.{Style}
+use Rattle.iv_text.specs.Sinks.{SinkState, FailsNever}
+use Rattle.iv_text.specs.declared.format.Style.{Style}
 use Rattle.iv_script.specs.declared.statements.Tally.{Tally}
 use Rattle.iv_script.specs.Transcript.{Memory, IsDue, AreDue, outcome, lines, accepted_of, refused_of, news_after, run_from, told_with, memory_refusals, untold_accounts, closing_lines}
 

@@ -18,12 +18,12 @@ use Rattle.iv_step.specs.Step.{step}
 use Rattle.iv_step.specs.Sure.{never_refused}
 use Rattle.iv_step.specs.Telling.{may_be_untold, statement_told}
 use Rattle.iv_print.specs.AccountLines.{account_text}
-use Rattle.iv_print.specs.Lines.{first_line, row_lines}
+use Rattle.iv_text.specs.Lines.{first_line, row_lines}
 use Rattle.iv_print.specs.PendingLines.{pending_lines}
-use Rattle.iv_print.specs.Sinks.{SinkState}
-use Rattle.iv_print.specs.declared.format.Format.{Format}
-use Rattle.iv_print.specs.declared.format.Format.TheVariants.{Words, Json}
-use Rattle.iv_print.specs.declared.format.Style.{Style}
+use Rattle.iv_text.specs.Sinks.{SinkState}
+use Rattle.iv_text.specs.declared.format.Format.{Format}
+use Rattle.iv_text.specs.declared.format.Format.TheVariants.{Words, Json}
+use Rattle.iv_text.specs.declared.format.Style.{Style}
 use Rattle.iv_script.specs.declared.summary.Summary.{Summary}
 use Rattle.iv_script.specs.JsonLines.{json_closing, json_line}
 use Rattle.iv_explain.specs.Columns.{columns_line}

@@ -3,11 +3,11 @@ ghost use Rattle.std.specs.Prelude.{◌≡◌, ◌-◌, ◌++◌, ◌≤◌, fal
 ghost use Rattle.std.specs.List.{flat_map};
 ghost use Rattle.unicode_width.specs.Width.{str_width};
 ghost use Rattle.iv_lex.specs.Words.{characters, is_boundary};
-ghost use Rattle.iv_print.specs.Writing.{Writes};
+ghost use Rattle.iv_text.specs.Writing.{Writes};
 ghost use Rattle.iv_script.specs.FaultLines.{around_text, back, behind, caret_around, caret_below, caret_text, front, front_bytes, last_line, left_after, shown, spaces};
 
 use crate::place::{is_continuation, place_at, words_of};
-use iv_print::{DeviceFault, Sink, write_all, write_nothing};
+use iv_text::{DeviceFault, Sink, write_all, write_nothing};
 use unicode_width::UnicodeWidthStr;
 
 /// The most characters that are shown of a line before a word, and from it on.
@@ -135,7 +135,7 @@ fn spaces(count: usize) -> &'static [u8]
     &blanks[..count.min(blanks.len())]
 }
 
-#[tactic(auto, using(iv_print::proofs::WriteLemmas::writes_then))]
+#[tactic(auto, using(iv_text::proofs::WriteLemmas::writes_then))]
 fn write_caret<W: Sink>(writer: &mut W, before: &str, after: &[u8]) -> Result<(), DeviceFault>
     ensures { Writes (W.state writer.old) (W.state writer.new) result
         (caret_text before.now after.now) }

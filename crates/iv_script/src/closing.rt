@@ -1,15 +1,15 @@
 //! The lines after those of a script's statements.
 ghost use Rattle.std.specs.Prelude.{◌≡◌, ◌+◌, ◌++◌, ◌<◌, ◌^◌, option_map};
-ghost use Rattle.iv_print.specs.Writing.{Writes};
+ghost use Rattle.iv_text.specs.Writing.{Writes};
 ghost use Rattle.iv_script.specs.Transcript.{closing_in, closing_text, end_line, fault_line};
 
 use crate::fault_line::write_fault_place;
 use crate::json_line::write_json_closing;
 use iv_parse::SyntaxFault;
-use iv_print::{DeviceFault, Format, Sink, Style, write_all, write_nothing, write_number};
+use iv_text::{DeviceFault, Format, Sink, Style, write_all, write_nothing, write_number};
 
 // Writes the line of a fault after so many statements.
-#[tactic(auto, using(iv_print::proofs::WriteLemmas::writes_then))]
+#[tactic(auto, using(iv_text::proofs::WriteLemmas::writes_then))]
 fn write_fault<W: Sink>(
     writer: &mut W,
     count: u64,
@@ -42,7 +42,7 @@ fn write_end<W: Sink>(writer: &mut W, is_open: bool) -> Result<(), DeviceFault>
 }
 
 // The lines in words.
-#[tactic(auto, using(iv_print::proofs::WriteLemmas::writes_then))]
+#[tactic(auto, using(iv_text::proofs::WriteLemmas::writes_then))]
 fn write_words<W: Sink>(
     writer: &mut W,
     explain: bool,

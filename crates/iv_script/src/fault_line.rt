@@ -1,7 +1,7 @@
 //! The lines that tell where the fault of a script is.
 ghost use Rattle.std.specs.Prelude.{◌≡◌, ◌++◌};
 ghost use Rattle.std.specs.List.{flat_map};
-ghost use Rattle.iv_print.specs.Writing.{Writes};
+ghost use Rattle.iv_text.specs.Writing.{Writes};
 ghost use Rattle.iv_script.specs.FaultLines.{fault_text, further_kind, place_lines, place_text, told_text, wanted_text, wrong_word};
 
 use crate::caret::write_around;
@@ -9,7 +9,7 @@ use crate::hint::{fault_hint, token_text};
 use crate::place::{MOST_WORDS, Place, place_at, words_of};
 use iv_lex::{Token, TokenKind, kind_text};
 use iv_parse::SyntaxFault;
-use iv_print::{DeviceFault, Sink, write_all, write_nothing, write_number};
+use iv_text::{DeviceFault, Sink, write_all, write_nothing, write_number};
 
 /// The wrong word of a text, or its first characters; or what tells that the text ends.
 pub fn wrong_word<'a>(text: &'a str, token: Option<Token>) -> &'a [u8]
@@ -21,7 +21,7 @@ pub fn wrong_word<'a>(text: &'a str, token: Option<Token>) -> &'a [u8]
     words_of(token_text(text, token), MOST_WORDS)
 }
 
-#[tactic(auto, using(iv_print::proofs::WriteLemmas::writes_then))]
+#[tactic(auto, using(iv_text::proofs::WriteLemmas::writes_then))]
 fn write_further<W: Sink>(writer: &mut W, kind: TokenKind) -> Result<(), DeviceFault>
     ensures { Writes (W.state writer.old) (W.state writer.new) result (further_kind kind) }
 {
@@ -42,7 +42,7 @@ fn write_more<W: Sink>(writer: &mut W, kinds: &[TokenKind]) -> Result<(), Device
 }
 
 // What might have stood in the place of the word.
-#[tactic(auto, using(iv_print::proofs::WriteLemmas::writes_then))]
+#[tactic(auto, using(iv_text::proofs::WriteLemmas::writes_then))]
 fn write_wanted<W: Sink>(writer: &mut W, kinds: &[TokenKind]) -> Result<(), DeviceFault>
     ensures { Writes (W.state writer.old) (W.state writer.new) result (wanted_text kinds.now) }
 {
@@ -57,7 +57,7 @@ fn write_wanted<W: Sink>(writer: &mut W, kinds: &[TokenKind]) -> Result<(), Devi
 }
 
 // What is known of the word, or else the word and what might have stood there.
-#[tactic(auto, using(iv_print::proofs::WriteLemmas::writes_then))]
+#[tactic(auto, using(iv_text::proofs::WriteLemmas::writes_then))]
 fn write_told<W: Sink>(writer: &mut W, text: &str, fault: &SyntaxFault) -> Result<(), DeviceFault>
     ensures { Writes (W.state writer.old) (W.state writer.new) result (told_text text.now fault.now) }
 {
@@ -69,7 +69,7 @@ fn write_told<W: Sink>(writer: &mut W, text: &str, fault: &SyntaxFault) -> Resul
     write_wanted(writer, fault.wanted.as_slice())
 }
 
-#[tactic(auto, using(iv_print::proofs::WriteLemmas::writes_then))]
+#[tactic(auto, using(iv_text::proofs::WriteLemmas::writes_then))]
 fn write_place<W: Sink>(writer: &mut W, place: Place) -> Result<(), DeviceFault>
     ensures { Writes (W.state writer.old) (W.state writer.new) result (place_text place) }
 {
@@ -80,7 +80,7 @@ fn write_place<W: Sink>(writer: &mut W, place: Place) -> Result<(), DeviceFault>
     write_all(writer, b": ")
 }
 
-#[tactic(auto, using(iv_print::proofs::WriteLemmas::writes_then))]
+#[tactic(auto, using(iv_text::proofs::WriteLemmas::writes_then))]
 fn write_lines<W: Sink>(writer: &mut W, text: &str, fault: &SyntaxFault) -> Result<(), DeviceFault>
     ensures { Writes (W.state writer.old) (W.state writer.new) result (fault_text text.now fault.now) }
 {

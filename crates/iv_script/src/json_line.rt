@@ -2,7 +2,7 @@
 ghost use Rattle.std.specs.Prelude.{◌≡◌, ◌+◌, ◌++◌, ◌<◌, ◌^◌, Some};
 ghost use Rattle.std.specs.List.{flat_map};
 ghost use Rattle.std.specs.Option.{option_copied};
-ghost use Rattle.iv_print.specs.Writing.{Writes};
+ghost use Rattle.iv_text.specs.Writing.{Writes};
 ghost use Rattle.iv_script.specs.JsonLines.{about_member, account_member, byte_members, columns_member_of, fault_front, fault_members, json_closing, json_end_line, json_fault_line, json_kinds, json_line, further_text, hint_member, known_members, number_key, place_members, text_member, wanted_member, word_member};
 ghost use Rattle.iv_script.specs.Places.{place_at};
 
@@ -17,15 +17,15 @@ use iv_explain::{write_columns_member, write_explained_member};
 use iv_lex::{Token, TokenKind, kind_text};
 use iv_machine::Limits;
 use iv_parse::SyntaxFault;
-use iv_print::{
-    DeviceFault, Sink, write_all, write_json_account, write_json_text, write_key, write_member,
-    write_nothing, write_number, write_number_member, write_outcome_members, write_pending_members,
-    write_text_member,
-};
+use iv_print::{write_json_account, write_pending_members};
 use iv_step::Outcome;
 use iv_syntax::Statement;
+use iv_text::{
+    DeviceFault, Sink, write_all, write_json_text, write_key, write_member, write_nothing,
+    write_number, write_number_member, write_outcome_members, write_text_member,
+};
 
-#[tactic(auto, using(iv_print::proofs::WriteLemmas::writes_then))]
+#[tactic(auto, using(iv_text::proofs::WriteLemmas::writes_then))]
 fn write_number_key<W: Sink>(writer: &mut W, number: u64) -> Result<(), DeviceFault>
     ensures { Writes (W.state writer.old) (W.state writer.new) result (number_key number) }
 {
@@ -34,7 +34,7 @@ fn write_number_key<W: Sink>(writer: &mut W, number: u64) -> Result<(), DeviceFa
     write_number(writer, number)
 }
 
-#[tactic(auto, using(iv_print::proofs::WriteLemmas::writes_then))]
+#[tactic(auto, using(iv_text::proofs::WriteLemmas::writes_then))]
 fn write_account_member<W: Sink>(
     writer: &mut W,
     is_told: bool,
@@ -115,7 +115,7 @@ fn write_columns<W: Sink>(
 }
 
 /// Writes the object of a statement, on a line of its own.
-#[tactic(auto, using(iv_print::proofs::WriteLemmas::writes_then))]
+#[tactic(auto, using(iv_text::proofs::WriteLemmas::writes_then))]
 pub fn write_json_line<W: Sink>(
     writer: &mut W,
     telling: Telling,
@@ -146,7 +146,7 @@ pub fn write_json_line<W: Sink>(
     write_all(writer, b"}\n")
 }
 
-#[tactic(auto, using(iv_print::proofs::WriteLemmas::writes_then))]
+#[tactic(auto, using(iv_text::proofs::WriteLemmas::writes_then))]
 fn write_place<W: Sink>(writer: &mut W, place: Place) -> Result<(), DeviceFault>
     ensures { Writes (W.state writer.old) (W.state writer.new) result (place_members place) }
 {
@@ -156,7 +156,7 @@ fn write_place<W: Sink>(writer: &mut W, place: Place) -> Result<(), DeviceFault>
 }
 
 // A byte of a text, and its line and column.
-#[tactic(auto, using(iv_print::proofs::WriteLemmas::writes_then))]
+#[tactic(auto, using(iv_text::proofs::WriteLemmas::writes_then))]
 fn write_byte<W: Sink>(writer: &mut W, text: &str, at: usize) -> Result<(), DeviceFault>
     ensures { Writes (W.state writer.old) (W.state writer.new) result (byte_members text.now at) }
 {
@@ -175,7 +175,7 @@ fn write_text<W: Sink>(writer: &mut W, text: &str, token: Option<Token>) -> Resu
 }
 
 // The first word that can't stand where it does.
-#[tactic(auto, using(iv_print::proofs::WriteLemmas::writes_then))]
+#[tactic(auto, using(iv_text::proofs::WriteLemmas::writes_then))]
 fn write_word<W: Sink>(writer: &mut W, text: &str, fault: &SyntaxFault) -> Result<(), DeviceFault>
     ensures { Writes (W.state writer.old) (W.state writer.new) result (word_member text.now fault.now) }
 {
@@ -187,7 +187,7 @@ fn write_word<W: Sink>(writer: &mut W, text: &str, fault: &SyntaxFault) -> Resul
     write_all(writer, b"}")
 }
 
-#[tactic(auto, using(iv_print::proofs::WriteLemmas::writes_then))]
+#[tactic(auto, using(iv_text::proofs::WriteLemmas::writes_then))]
 fn write_further_kind<W: Sink>(writer: &mut W, kind: TokenKind) -> Result<(), DeviceFault>
     ensures { Writes (W.state writer.old) (W.state writer.new) result (further_text kind) }
 {
@@ -207,7 +207,7 @@ fn write_more_kinds<W: Sink>(writer: &mut W, kinds: &[TokenKind]) -> Result<(), 
     Ok(())
 }
 
-#[tactic(auto, using(iv_print::proofs::WriteLemmas::writes_then))]
+#[tactic(auto, using(iv_text::proofs::WriteLemmas::writes_then))]
 fn write_kinds<W: Sink>(writer: &mut W, kinds: &[TokenKind]) -> Result<(), DeviceFault>
     ensures { Writes (W.state writer.old) (W.state writer.new) result (json_kinds kinds.now) }
 {
@@ -221,7 +221,7 @@ fn write_kinds<W: Sink>(writer: &mut W, kinds: &[TokenKind]) -> Result<(), Devic
 }
 
 // What might have stood there.
-#[tactic(auto, using(iv_print::proofs::WriteLemmas::writes_then))]
+#[tactic(auto, using(iv_text::proofs::WriteLemmas::writes_then))]
 fn write_wanted<W: Sink>(writer: &mut W, kinds: &[TokenKind]) -> Result<(), DeviceFault>
     ensures { Writes (W.state writer.old) (W.state writer.new) result (wanted_member kinds.now) }
 {
@@ -242,7 +242,7 @@ fn write_hint<W: Sink>(writer: &mut W, hint: &[u8]) -> Result<(), DeviceFault>
 }
 
 // What is known of the word.
-#[tactic(auto, using(iv_print::proofs::WriteLemmas::writes_then))]
+#[tactic(auto, using(iv_text::proofs::WriteLemmas::writes_then))]
 fn write_known<W: Sink>(writer: &mut W, text: &str, fault: &SyntaxFault) -> Result<(), DeviceFault>
     ensures { Writes (W.state writer.old) (W.state writer.new) result (known_members text.now fault.now) }
 {
@@ -251,7 +251,7 @@ fn write_known<W: Sink>(writer: &mut W, text: &str, fault: &SyntaxFault) -> Resu
 }
 
 // The front of a fault's object after so many statements.
-#[tactic(auto, using(iv_print::proofs::WriteLemmas::writes_then))]
+#[tactic(auto, using(iv_text::proofs::WriteLemmas::writes_then))]
 fn write_fault_front<W: Sink>(
     writer: &mut W,
     text: &str,
@@ -267,7 +267,7 @@ fn write_fault_front<W: Sink>(
     write_byte(writer, text, fault.at)
 }
 
-#[tactic(auto, using(iv_print::proofs::WriteLemmas::writes_then))]
+#[tactic(auto, using(iv_text::proofs::WriteLemmas::writes_then))]
 fn write_fault_members<W: Sink>(
     writer: &mut W,
     text: &str,
@@ -312,7 +312,7 @@ fn write_end<W: Sink>(writer: &mut W, is_open: bool) -> Result<(), DeviceFault>
 }
 
 /// Writes the objects of the script's fault and of a transaction that is open at the end, each on a line of its own.
-#[tactic(auto, using(iv_print::proofs::WriteLemmas::writes_then))]
+#[tactic(auto, using(iv_text::proofs::WriteLemmas::writes_then))]
 pub fn write_json_closing<W: Sink>(
     writer: &mut W,
     text: &str,

@@ -19,7 +19,7 @@ mod telling;
 pub use caret::MOST_AROUND;
 pub use hint::{CALLS, CLAUSES, JOINS, NO_TOKENS, NO_TYPES, STATEMENTS, WORDS, fault_hint};
 pub use iv_parse::SyntaxFault;
-pub use iv_print::{DeviceFault, Format, Sink, Source, Std, Style};
+pub use iv_text::{DeviceFault, Format, Sink, Source, Std, Style};
 pub use lines::write_lines;
 pub use place::{MOST_WORDS, Place, place_at, words_at};
 pub use read::LONGEST;

@@ -1,9 +1,9 @@
 //! The lines of a statement.
 ghost use Rattle.std.specs.Prelude.{◌++◌, Some};
 ghost use Rattle.std.specs.Option.{option_copied};
-ghost use Rattle.iv_print.specs.Lines.{first_line, row_lines};
+ghost use Rattle.iv_text.specs.Lines.{first_line, row_lines};
 ghost use Rattle.iv_print.specs.PendingLines.{pending_lines};
-ghost use Rattle.iv_print.specs.Writing.{Writes};
+ghost use Rattle.iv_text.specs.Writing.{Writes};
 ghost use Rattle.iv_script.specs.Transcript.{account_lines_of, columns_line_of, lines_in, name_line_of, outcome_lines};
 
 use crate::json_line::write_json_line;
@@ -12,12 +12,10 @@ use iv_account::Entry;
 use iv_catalogue::{Catalogue, Fault};
 use iv_explain::{write_columns_line, write_explained_line};
 use iv_machine::Limits;
-use iv_print::{
-    DeviceFault, Format, Sink, write_account, write_first_line, write_nothing, write_pending_lines,
-    write_row_lines,
-};
+use iv_print::{write_account, write_pending_lines};
 use iv_step::Outcome;
 use iv_syntax::Statement;
+use iv_text::{DeviceFault, Format, Sink, write_first_line, write_nothing, write_row_lines};
 
 /// What is told of a statement besides its outcome: its account, and the violations of deferred constraints that came
 /// and that went.
@@ -110,7 +108,7 @@ fn write_account_of<W: Sink>(
 }
 
 // The lines in words.
-#[tactic(auto, using(iv_print::proofs::WriteLemmas::writes_then))]
+#[tactic(auto, using(iv_text::proofs::WriteLemmas::writes_then))]
 fn write_words<W: Sink>(
     writer: &mut W,
     telling: Telling,

@@ -1,9 +1,9 @@
 //! A whole script, read from a device.
 ghost use Rattle.std.specs.Prelude.{◌≡◌, ◌≢◌, ◌+◌, ◌-◌, ◌<◌, ◌≤◌, List, ℕ, length, max, IfErr, IfOk, IfSome, IsErrOf, OnOk, OnErr};
-ghost use Rattle.iv_print.specs.Counts.{counted};
+ghost use Rattle.iv_text.specs.Counts.{counted};
 
 use crate::summary::RunFault;
-use iv_print::Source;
+use iv_text::Source;
 use std::alloc::Global;
 
 /// The most bytes that a script may have.

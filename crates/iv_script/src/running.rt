@@ -1,8 +1,8 @@
 //! A script's run.
 ghost use Rattle.std.specs.Prelude.{◌≡◌, ◌≢◌, ◌+◌, ◌<◌, ◌≤◌, ◌^◌, false, length, max, option_map, MatchResult, IfErr, IfOk, IfSome, IsErrOf, OnOk};
 ghost use Rattle.std.specs.Str.{IsUtf8};
-ghost use Rattle.iv_print.specs.Counts.{counted};
-ghost use Rattle.iv_print.specs.Sinks.{FailsOnce, FailsNever};
+ghost use Rattle.iv_text.specs.Counts.{counted};
+ghost use Rattle.iv_text.specs.Sinks.{FailsOnce, FailsNever};
 ghost use Rattle.iv_script.specs.Lengths.{Fits, IsExact};
 ghost use Rattle.iv_script.specs.Transcript.{fault_place, RanScript, RanWithMemory};
 ghost use Rattle.iv_script.specs.Running.{RanParsed};
@@ -14,9 +14,9 @@ use crate::summary::{RunFault, Summary};
 use crate::telling::Telling;
 use iv_machine::Limits;
 use iv_parse::{SyntaxFault, script};
-use iv_print::{Buffered, DeviceFault, Sink, Source, Style};
 use iv_step::Executor;
 use iv_syntax::Statement;
+use iv_text::{Buffered, DeviceFault, Sink, Source, Style};
 use std::alloc::Global;
 use std::str::from_utf8;
 

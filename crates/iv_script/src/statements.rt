@@ -1,8 +1,8 @@
 //! The statements of a script, run one after the other, with the lines of their outcomes.
 ghost use Rattle.std.specs.Prelude.{◌≡◌, ◌+◌, ◌<◌, ◌≤◌, ◌^◌, ◌||◌, IfOk, MatchResult, Some, if◌then◌else◌};
 ghost use Rattle.iv_catalogue.specs.Refusals.{is_memory};
-ghost use Rattle.iv_print.specs.Sinks.{FailsOnce};
-ghost use Rattle.iv_print.specs.Writing.{Writes};
+ghost use Rattle.iv_text.specs.Sinks.{FailsOnce};
+ghost use Rattle.iv_text.specs.Writing.{Writes};
 ghost use Rattle.iv_step.specs.Pending.{FaultsRise};
 ghost use Rattle.iv_script.specs.Transcript.{accepted_of, lines_in, refused_of};
 ghost use Rattle.iv_script.specs.Running.{RanOne, RanAll};
@@ -11,9 +11,9 @@ use crate::lines::{Told, write_told};
 use crate::news::{News, news_after};
 use crate::telling::Telling;
 use iv_catalogue::Fault;
-use iv_print::{DeviceFault, Sink};
 use iv_step::{Executor, Outcome, is_memory_refused};
 use iv_syntax::Statement;
+use iv_text::{DeviceFault, Sink};
 
 /// How many statements were accepted and refused, how many of the refused had cause 22, and for how many accounts of
 /// COMMITs and ROLLBACK TOs and lines of what is pending memory was refused.

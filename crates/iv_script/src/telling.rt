@@ -1,6 +1,6 @@
 //! How outcomes are told.
 
-use iv_print::Style;
+use iv_text::Style;
 use std::alloc::Global;
 
 /// How outcomes are told, and where memory comes from for what that takes.

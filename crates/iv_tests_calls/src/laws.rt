@@ -42,7 +42,7 @@ fn laws_of_reasons_are_called(rt: HostRuntime) {
 
 #[test]
 fn laws_of_texts_are_called(rt: HostRuntime) {
-    iv_laws_writable::statements_are_writable();
+    iv_laws_answers::statements_are_writable();
     iv_write::laws::what_is_read_can_be_written();
     iv_restate::laws::what_is_written_is_itself();
     iv_dump::laws::checks_can_be_written();

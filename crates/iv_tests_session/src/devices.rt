@@ -77,7 +77,7 @@ struct ByteSink {
 
 impl Sink for ByteSink {
     ghost use Rattle.std.specs.Prelude.{None};
-    ghost use Rattle.iv_print.specs.Sinks.{sink_state};
+    ghost use Rattle.iv_text.specs.Sinks.{sink_state};
 
     ghost state = { λ s. sink_state None s.failed };
 
@@ -108,7 +108,7 @@ struct CountingSink {
 
 impl Sink for CountingSink {
     ghost use Rattle.std.specs.Prelude.{None};
-    ghost use Rattle.iv_print.specs.Sinks.{sink_state};
+    ghost use Rattle.iv_text.specs.Sinks.{sink_state};
 
     ghost state = { λ _. sink_state None 0 };
 

@@ -127,6 +127,13 @@ pub record WorkedFailures : Type 0 where
   -- UPDATE t SET a = a + 1 WHERE a > 5; only rows where the condition is true have values
   pub value_where_true : told (with_greatest (update 0 (setting 0 (plus (column 0) (number 1)) ∷ []) (where_column Greater 0 5)))
       ≡ out_of_range (hand.Row second_row) (part.Column 0 0) ∷ []
+  -- UPDATE t SET a = a * 9223372036854775807 WHERE a + 1 > 0; the condition comes at all rows before the value of the first
+  pub conditions_before_values : told (with_greatest
+      (update 0 (setting 0 (times (column 0) (number greatest)) ∷ []) (Compare Greater (plus (column 0) (number 1)) (number 0))))
+      ≡ out_of_range (hand.Row second_row) part.Where ∷ []
+  -- UPDATE t SET a = a * 9223372036854775807 WHERE a > 5; the first row, where the condition is false, has no value
+  pub no_value_where_false : told (with_greatest (update 0 (setting 0 (times (column 0) (number greatest)) ∷ []) (where_column Greater 0 5)))
+      ≡ number_fails (hand.Row second_row) (part.Column 0 0) greatest Times greatest ∷ []
   -- DELETE FROM t WHERE a < 6 AND a + 1 > 0; both sides are evaluated
   pub condition_of_a_deletion : told (with_greatest
       (delete 0 (and_c (where_column Less 0 6) (Compare Greater (plus (column 0) (number 1)) (number 0)))))

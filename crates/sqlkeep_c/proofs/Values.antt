@@ -28,7 +28,7 @@ use Rattle.std.specs.contracts.alloc.Global as heap
 use Rattle.std.proofs.alloc.Global.TheLaws as heap_laws
 use Rattle.std.specs.contracts.impls.GlobalAllocator.TheImpl.{ghosts}
 use Rattle.sqlkeep_c.specs.Behind.{owns_behind}
-use Rattle.iv_connection.specs.contracts.connection.Connection as opened
+use Rattle.iv_shown.specs.contracts.connection.Connection as opened
 use Rattle.sqlkeep_c.specs.contracts.kept.Kept as kept
 use Rattle.sqlkeep_c.specs.contracts.loose.Loose as loose
 

@@ -6,8 +6,8 @@ use Rattle.std.specs.declared.alloc.Global.{Global}
 use Rattle.std.specs.contracts.impls.GlobalAllocator.TheImpl.{ghosts}
 use base.Fml.{Fml, ftrue}
 use denote.RawPtr.{Ptr}
-use Rattle.iv_connection.specs.declared.connection.Connection.{Connection}
-use Rattle.iv_connection.specs.contracts.connection.Connection.{the_row as the_opened}
+use Rattle.iv_shown.specs.declared.connection.Connection.{Connection}
+use Rattle.iv_shown.specs.contracts.connection.Connection.{the_row as the_opened}
 
 -- what is open behind a pointer
 abbrev pub Behind : Type 0

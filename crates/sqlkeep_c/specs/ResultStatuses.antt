@@ -1,7 +1,7 @@
 -- Which status a call with a result answers.
 use Rattle.std.specs.Prelude.{◌≡◌, ◌≢◌, ℕ, Option, Some, None}
 use Rattle.iv_connection.specs.Results.{rows_given}
-use Rattle.iv_connection.specs.declared.status.TheConstants.{OK, CLOSED, OPEN, NO_MEMORY, NOTHING}
+use Rattle.iv_shown.specs.declared.status.TheConstants.{OK, CLOSED, OPEN, NO_MEMORY, NOTHING}
 use Rattle.sqlkeep_c.specs.Behind.{Behind}
 use Rattle.sqlkeep_c.specs.BehindResult.{Rows}
 

@@ -4,9 +4,9 @@ use Rattle.std.specs.Str.{IsUtf8}
 use Rattle.iv_script.specs.Lengths.{Fits}
 use Rattle.sqlkeep_c.specs.Behind.{Behind}
 use Rattle.iv_connection.specs.Dumps.{IsDumpStatus}
-use Rattle.iv_connection.specs.Statuses.{MayWantMemory, are_limits}
+use Rattle.iv_shown.specs.Statuses.{MayWantMemory, are_limits}
 use Rattle.iv_connection.specs.Templates.{WhyNotRead}
-use Rattle.iv_connection.specs.declared.status.TheConstants.{OK, CLOSED, OPEN, LIMITS, NOT_UTF8, TOO_LONG, NO_MEMORY}
+use Rattle.iv_shown.specs.declared.status.TheConstants.{OK, CLOSED, OPEN, LIMITS, NOT_UTF8, TOO_LONG, NO_MEMORY}
 
 -- an empty handle is closed; otherwise what is open decides
 abbrev pub status_by : (Behind → ℕ) → Option Behind → ℕ

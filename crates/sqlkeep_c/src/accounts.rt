@@ -1,13 +1,13 @@
 //! The account of the last statement, entry by entry.
 ghost use Rattle.std.specs.Prelude.{◌≡◌, ◌≢◌, length, slice_get, IfSome};
-ghost use Rattle.iv_connection.specs.Accounts.{disagreement_at, disagreement_shown, entry_shown, item_at, item_value, name_at_entry, seen_value, set_value, trigger_at_entry};
-ghost use Rattle.iv_connection.specs.Copying.{Copies};
-ghost use Rattle.iv_connection.specs.Cells.{text_of, cell_of};
-ghost use Rattle.iv_connection.specs.Statuses.{found};
+ghost use Rattle.iv_shown.specs.Accounts.{disagreement_at, disagreement_shown, entry_shown, item_at, item_value, name_at_entry, seen_value, set_value, trigger_at_entry};
+ghost use Rattle.iv_shown.specs.Copying.{Copies};
+ghost use Rattle.iv_shown.specs.Cells.{text_of, cell_of};
+ghost use Rattle.iv_shown.specs.Statuses.{found};
 ghost use Rattle.sqlkeep_c.specs.Statuses.{status_by, status_if_open};
 
 use crate::handle::{Handle, put, take};
-use iv_connection::{
+use iv_shown::{
     CLOSED, Cell, NOTHING, OK, ShownDisagreement, ShownEntry, ShownItem, copied_if_there,
     copy_text, disagreement_at, disagreement_shown, entry_at, entry_name_at, entry_shown,
     entry_trigger_at, item_at, item_value, seen_value, set_value, write_value,

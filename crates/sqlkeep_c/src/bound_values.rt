@@ -5,7 +5,8 @@ ghost use Rattle.sqlkeep_c.specs.Calls.{Called};
 ghost use Rattle.sqlkeep_c.specs.Statuses.{IsStatus, IsStatusOfText, status_if_open};
 
 use crate::handle::{Handle, put, take};
-use iv_connection::{CLOSED, NOT_UTF8, OK, bind, bind_text};
+use iv_connection::{bind, bind_text};
+use iv_shown::{CLOSED, NOT_UTF8, OK};
 use iv_value::{Value, text};
 use sqlite_items::Items;
 use std::alloc::Global;

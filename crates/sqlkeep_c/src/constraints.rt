@@ -1,16 +1,17 @@
 //! The catalogue's constraints, by their places.
 ghost use Rattle.std.specs.Prelude.{◌≡◌, ◌≢◌, slice_get, IfSome};
-ghost use Rattle.iv_connection.specs.Catalogue.{constraint_column, constraint_name, constraint_shown, mode_at, referenced_column};
+ghost use Rattle.iv_shown.specs.Catalogue.{constraint_column, constraint_name, constraint_shown, mode_at, referenced_column};
 ghost use Rattle.iv_connection.specs.Conditions.{constraint_condition};
-ghost use Rattle.iv_connection.specs.Copying.{Copies};
-ghost use Rattle.iv_connection.specs.Statuses.{found};
+ghost use Rattle.iv_shown.specs.Copying.{Copies};
+ghost use Rattle.iv_shown.specs.Statuses.{found};
 ghost use Rattle.sqlkeep_c.specs.Statuses.{IsStatusOfFinding, status_by};
 
 use crate::handle::{Handle, put, take};
-use iv_connection::{
+use iv_connection::constraint_condition;
+use iv_shown::{
     CLOSED, NO_MEMORY, NOTHING, OK, ShownConstraint, constraint_at, constraint_column,
-    constraint_condition, constraint_name, constraint_shown, copied, copied_if_there, mode_at,
-    referenced_column, write_place,
+    constraint_name, constraint_shown, copied, copied_if_there, mode_at, referenced_column,
+    write_place,
 };
 use std::alloc::Global;
 

@@ -2,14 +2,15 @@
 ghost use Rattle.std.specs.Prelude.{◌≡◌, ◌≢◌, false, length, slice_get, IfSome};
 ghost use Rattle.iv_dump.specs.Dumps.{AreDump};
 ghost use Rattle.iv_dump.specs.Scripts.{AreShort};
-ghost use Rattle.iv_connection.specs.Copying.{Copies};
+ghost use Rattle.iv_shown.specs.Copying.{Copies};
 ghost use Rattle.iv_connection.specs.Dumps.{scripts_of};
-ghost use Rattle.iv_connection.specs.Statuses.{found};
+ghost use Rattle.iv_shown.specs.Statuses.{found};
 ghost use Rattle.sqlkeep_c.specs.Calls.{Called};
 ghost use Rattle.sqlkeep_c.specs.Statuses.{IsStatusOfDump, status_by};
 
 use crate::handle::{Handle, put, take};
-use iv_connection::{CLOSED, IN_TRANSACTION, OK, copied_if_there, dump_script, keep_dump};
+use iv_connection::{dump_script, keep_dump};
+use iv_shown::{CLOSED, IN_TRANSACTION, OK, copied_if_there};
 use std::alloc::Global;
 
 /// Writes the database as scripts that make it again, and keeps them. The state of the session stays.

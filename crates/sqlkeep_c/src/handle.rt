@@ -3,7 +3,7 @@ ghost use Rattle.std.specs.Prelude.{◌≡◌, None, Some, is_some, option_map};
 
 use crate::kept::Kept;
 use crate::loose::Loose;
-use iv_connection::Connection;
+use iv_shown::Connection;
 use std::alloc::Global;
 use std::mem::replace;
 

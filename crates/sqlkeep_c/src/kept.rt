@@ -4,7 +4,7 @@ ghost use Rattle.std.specs.Coded.{coded_option};
 ghost use Rattle.sqlkeep_c.specs.Behind.{Behind, behind_code};
 
 use crate::loose::Loose;
-use iv_connection::Connection;
+use iv_shown::Connection;
 use std::alloc::Global;
 use std::marker::Model;
 use std::ptr::null_mut;

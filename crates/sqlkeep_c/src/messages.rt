@@ -1,11 +1,12 @@
 //! The last outcome in words.
 ghost use Rattle.std.specs.Prelude.{◌≡◌, ◌≢◌, IfSome};
-ghost use Rattle.iv_connection.specs.Copying.{Copies};
+ghost use Rattle.iv_shown.specs.Copying.{Copies};
 ghost use Rattle.iv_connection.specs.Messages.{message_of};
 ghost use Rattle.sqlkeep_c.specs.Statuses.{IsStatus};
 
 use crate::handle::{Handle, put, take};
-use iv_connection::{CLOSED, NO_MEMORY, OK, copied, message};
+use iv_connection::message;
+use iv_shown::{CLOSED, NO_MEMORY, OK, copied};
 use std::alloc::Global;
 
 /// Copies bytes of a message on the last outcome, from this one on: one line of words without its end.

@@ -1,13 +1,14 @@
 //! The columns of the query that was executed last.
 ghost use Rattle.std.specs.Prelude.{◌≡◌, ◌≢◌, IfSome};
-ghost use Rattle.iv_connection.specs.Copying.{Copies};
+ghost use Rattle.iv_shown.specs.Copying.{Copies};
 ghost use Rattle.iv_connection.specs.OutcomeLines.{executed};
 ghost use Rattle.iv_connection.specs.Queries.{query_column, query_columns};
-ghost use Rattle.iv_connection.specs.Statuses.{found};
+ghost use Rattle.iv_shown.specs.Statuses.{found};
 ghost use Rattle.sqlkeep_c.specs.Statuses.{status_by};
 
 use crate::handle::{Handle, put, take};
-use iv_connection::{CLOSED, NOTHING, OK, copied_if_there, executed, query_column, query_columns};
+use iv_connection::{executed, query_column, query_columns};
+use iv_shown::{CLOSED, NOTHING, OK, copied_if_there};
 use std::alloc::Global;
 
 /// How many columns the query has that was executed last.

@@ -1,19 +1,17 @@
 //! The rows of a query apart from the session that gave them.
 ghost use Rattle.std.specs.Prelude.{◌≡◌, ◌≢◌, [], None, Ok, Some, IfSome, drop, slice_get};
-ghost use Rattle.iv_connection.specs.Cells.{AreCopied};
+ghost use Rattle.iv_shown.specs.Cells.{AreCopied};
 ghost use Rattle.iv_machine.specs.declared.answer.Answer.TheVariants as answer;
-ghost use Rattle.iv_connection.specs.Copying.{Copies};
+ghost use Rattle.iv_shown.specs.Copying.{Copies};
 ghost use Rattle.iv_connection.specs.Results.{last_names, names_of, result_shown, rows_given};
-ghost use Rattle.iv_connection.specs.Statuses.{found};
+ghost use Rattle.iv_shown.specs.Statuses.{found};
 ghost use Rattle.sqlkeep_c.specs.Calls.{Called};
 ghost use Rattle.sqlkeep_c.specs.ResultStatuses.{IsStatusOfTaking, result_status, result_status_by};
 
 use crate::handle::{Handle, put, take};
 use crate::result_handle::{ResultHandle, put_rows, take_rows};
-use iv_connection::{
-    CLOSED, Cell, OK, OPEN, ShownResult, TakenRows, copied_if_there, copy_rows_of, result_column,
-    result_shown, take_result,
-};
+use iv_connection::{ShownResult, result_column, result_shown, take_result};
+use iv_shown::{CLOSED, Cell, OK, OPEN, TakenRows, copied_if_there, copy_rows_of};
 use std::alloc::Global;
 
 /// Takes the rows of the last outcome out of the session, with the names of their columns. They stay until the result is freed.

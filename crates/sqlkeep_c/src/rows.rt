@@ -1,13 +1,13 @@
 //! The rows that a query gave.
 ghost use Rattle.std.specs.Prelude.{◌≡◌, ◌≢◌, drop, length, IfSome};
-ghost use Rattle.iv_connection.specs.Copying.{Copies};
-ghost use Rattle.iv_connection.specs.Statuses.{found};
+ghost use Rattle.iv_shown.specs.Copying.{Copies};
+ghost use Rattle.iv_shown.specs.Statuses.{found};
 ghost use Rattle.sqlkeep_c.specs.Statuses.{status_by, status_if_open};
-ghost use Rattle.iv_connection.specs.Cells.{AreCopied, cell_of, text_of};
-ghost use Rattle.iv_connection.specs.Rows.{row_at, rows_of, value_at};
+ghost use Rattle.iv_shown.specs.Cells.{AreCopied, cell_of, text_of};
+ghost use Rattle.iv_shown.specs.Rows.{row_at, rows_of, value_at};
 
 use crate::handle::{Handle, put, take};
-use iv_connection::{
+use iv_shown::{
     CLOSED, Cell, NOTHING, OK, TakenRows, cell_of, copied, copy_rows_from, rows_of, text_of,
     value_at,
 };

@@ -2,13 +2,14 @@
 ghost use Rattle.std.specs.Prelude.{◌≡◌, ◌≢◌, false, IfSome};
 ghost use Rattle.iv_script.specs.declared.summary.Summary.{Summary as Counts};
 ghost use Rattle.sqlkeep_c.specs.Calls.{Called};
-ghost use Rattle.iv_connection.specs.Copying.{Copies};
+ghost use Rattle.iv_shown.specs.Copying.{Copies};
 ghost use Rattle.iv_connection.specs.Scripts.{IsTranscript, IsWithMemory, Shows};
 ghost use Rattle.sqlkeep_c.specs.Statuses.{IsStatusOfScript, status_if_open};
 
 use crate::handle::{Handle, put, take};
-use iv_connection::{CLOSED, OK, RunSummary, copied, run_kept, run_status, summary_shown};
+use iv_connection::{RunSummary, run_kept, run_status, summary_shown};
 use iv_script::LONGEST;
+use iv_shown::{CLOSED, OK, copied};
 use std::alloc::Global;
 
 /// Runs a whole script in a new database with the limits of the session, and keeps its transcript, with accounts where

@@ -7,8 +7,9 @@ ghost use Rattle.iv_connection.specs.Sessions.{IsNew};
 ghost use Rattle.sqlkeep_c.specs.Statuses.{IsStatusOfOpening, status_if_open};
 
 use crate::handle::{Handle, put, take};
-use iv_connection::{CLOSED, LIMITS, NO_MEMORY, OK, OPEN, new_connection};
+use iv_connection::new_connection;
 use iv_machine::Limits;
+use iv_shown::{CLOSED, LIMITS, NO_MEMORY, OK, OPEN};
 use std::alloc::Global;
 
 /// Opens a session over no table, with these limits.

@@ -1,22 +1,22 @@
 //! Statements, one after the other in the session.
 ghost use Rattle.std.specs.Prelude.{◌≡◌, ◌≢◌, None, Some, true, IfSome, slice_get};
-ghost use Rattle.iv_print.specs.declared.format.Format.TheVariants.{Json, Words};
+ghost use Rattle.iv_text.specs.declared.format.Format.TheVariants.{Json, Words};
 ghost use Rattle.sqlkeep_c.specs.Calls.{Called};
 ghost use Rattle.iv_connection.specs.Kinds.{kind_of};
 ghost use Rattle.iv_connection.specs.OutcomeLines.{executed, lines_of};
 ghost use Rattle.iv_session.specs.Executed.{Executed};
-ghost use Rattle.iv_connection.specs.Places.{place_at};
+ghost use Rattle.iv_shown.specs.Places.{place_at};
 ghost use Rattle.iv_connection.specs.Statements.{IsRead, fault_shown, outcome_shown};
-ghost use Rattle.iv_connection.specs.Statuses.{found};
+ghost use Rattle.iv_shown.specs.Statuses.{found};
 ghost use Rattle.sqlkeep_c.specs.Statuses.{IsStatus, IsStatusOfFinding, IsStatusOfText, status_by};
 
 use crate::handle::{Handle, put, take};
 use iv_connection::{
-    CLOSED, NO_MEMORY, NOTHING, OK, ReadScript, ShownFault, ShownOutcome, StatementPlace,
-    execute_kept, fault_shown, keep_lines, keep_parsed, kind_of, outcome_shown, parse_text,
-    read_shown, statement_place,
+    ReadScript, ShownFault, ShownOutcome, execute_kept, fault_shown, keep_lines, keep_parsed,
+    kind_of, outcome_shown, parse_text, read_shown,
 };
-use iv_print::Format;
+use iv_shown::{CLOSED, NO_MEMORY, NOTHING, OK, StatementPlace, statement_place};
+use iv_text::Format;
 use std::alloc::Global;
 
 /// Reads the statements of a text, and keeps them.

@@ -1,14 +1,14 @@
 //! The rows of the database by their numbers.
 ghost use Rattle.std.specs.Prelude.{◌≡◌, ◌≢◌, IfSome};
 ghost use Rattle.iv_machine.specs.Databases.{row_at};
-ghost use Rattle.iv_connection.specs.Cells.{cell_of, text_of};
-ghost use Rattle.iv_connection.specs.Copying.{Copies};
-ghost use Rattle.iv_connection.specs.Statuses.{found};
-ghost use Rattle.iv_connection.specs.StoredRows.{stored_row_shown, stored_value};
+ghost use Rattle.iv_shown.specs.Cells.{cell_of, text_of};
+ghost use Rattle.iv_shown.specs.Copying.{Copies};
+ghost use Rattle.iv_shown.specs.Statuses.{found};
+ghost use Rattle.iv_shown.specs.StoredRows.{stored_row_shown, stored_value};
 ghost use Rattle.sqlkeep_c.specs.Statuses.{status_by};
 
 use crate::handle::{Handle, put, take};
-use iv_connection::{
+use iv_shown::{
     CLOSED, Cell, NOTHING, OK, ShownStoredRow, cell_of, copied, stored_row, stored_row_shown,
     stored_value, text_of,
 };

@@ -1,13 +1,13 @@
 //! The catalogue's tables and their columns, by their places.
 ghost use Rattle.std.specs.Prelude.{◌≡◌, ◌≢◌, length, IfSome};
-ghost use Rattle.iv_connection.specs.Catalogue.{catalogue_shown, column_at, column_name, columns_at, kind_shown, table_name};
-ghost use Rattle.iv_connection.specs.Copying.{Copies};
-ghost use Rattle.iv_connection.specs.Cells.{text_of, cell_of};
-ghost use Rattle.iv_connection.specs.Statuses.{found};
+ghost use Rattle.iv_shown.specs.Catalogue.{catalogue_shown, column_at, column_name, columns_at, kind_shown, table_name};
+ghost use Rattle.iv_shown.specs.Copying.{Copies};
+ghost use Rattle.iv_shown.specs.Cells.{text_of, cell_of};
+ghost use Rattle.iv_shown.specs.Statuses.{found};
 ghost use Rattle.sqlkeep_c.specs.Statuses.{status_by, status_if_open};
 
 use crate::handle::{Handle, put, take};
-use iv_connection::{
+use iv_shown::{
     CLOSED, Cell, NOTHING, OK, ShownCatalogue, ShownColumn, cell_of, column_at, column_name,
     columns_at, copied, copied_if_there, kind_shown, table_name, text_of,
 };

@@ -5,7 +5,8 @@ ghost use Rattle.iv_connection.specs.Templates.{IsReadOfTemplate};
 ghost use Rattle.sqlkeep_c.specs.Statuses.{IsStatusOfTemplate};
 
 use crate::handle::{Handle, put, take};
-use iv_connection::{CLOSED, OK, ReadScript, keep_parsed, parse_template, read_shown};
+use iv_connection::{ReadScript, keep_parsed, parse_template, read_shown};
+use iv_shown::{CLOSED, OK};
 use sqlite_items::Items;
 use std::alloc::Global;
 

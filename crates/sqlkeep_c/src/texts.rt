@@ -1,16 +1,16 @@
 //! The texts of the last refusal: its cause, and the names that it speaks of.
 ghost use Rattle.std.specs.Prelude.{◌≡◌, ◌≢◌, IfErr, IfSome};
-ghost use Rattle.iv_print.specs.Lines.{cause_words};
-ghost use Rattle.iv_connection.specs.Copying.{Copies};
-ghost use Rattle.iv_connection.specs.Statuses.{found_refusal};
+ghost use Rattle.iv_text.specs.Lines.{cause_words};
+ghost use Rattle.iv_shown.specs.Copying.{Copies};
+ghost use Rattle.iv_shown.specs.Statuses.{found_refusal};
 ghost use Rattle.sqlkeep_c.specs.Statuses.{status_by};
-ghost use Rattle.iv_connection.specs.Texts.{refusal_constraint, refusal_signal, refusal_trigger};
+ghost use Rattle.iv_shown.specs.Texts.{refusal_constraint, refusal_signal, refusal_trigger};
 
 use crate::handle::{Handle, put, take};
-use iv_connection::{
+use iv_shown::{
     CLOSED, NOTHING, OK, copied, copied_if_there, last_constraint, last_signal, last_trigger,
 };
-use iv_print::cause_words;
+use iv_text::cause_words;
 use std::alloc::Global;
 
 /// Copies the number and the name of the cause of the last refusal, as a transcript has them.

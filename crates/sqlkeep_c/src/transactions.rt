@@ -11,7 +11,8 @@ ghost use Rattle.iv_account.specs.Telling.{no_account};
 ghost use Rattle.iv_session.specs.FewLookups.{FewLookups};
 
 use crate::handle::{Handle, put, take};
-use iv_connection::{CLOSED, NOT_UTF8, OK, ShownOutcome, ShownWork, commit_kept, outcome_shown};
+use iv_connection::{ShownOutcome, ShownWork, commit_kept, outcome_shown};
+use iv_shown::{CLOSED, NOT_UTF8, OK};
 use std::alloc::Global;
 use std::str::from_utf8;
 

@@ -1,12 +1,12 @@
 //! The catalogue's triggers, by their places.
 ghost use Rattle.std.specs.Prelude.{◌≡◌, ◌≢◌, slice_get, IfSome};
-ghost use Rattle.iv_connection.specs.Catalogue.{trigger_column, trigger_name_at, trigger_shown};
-ghost use Rattle.iv_connection.specs.Copying.{Copies};
-ghost use Rattle.iv_connection.specs.Statuses.{found};
+ghost use Rattle.iv_shown.specs.Catalogue.{trigger_column, trigger_name_at, trigger_shown};
+ghost use Rattle.iv_shown.specs.Copying.{Copies};
+ghost use Rattle.iv_shown.specs.Statuses.{found};
 ghost use Rattle.sqlkeep_c.specs.Statuses.{status_by};
 
 use crate::handle::{Handle, put, take};
-use iv_connection::{
+use iv_shown::{
     CLOSED, NOTHING, OK, ShownTrigger, copied_if_there, trigger_at, trigger_column, trigger_name,
     trigger_shown, write_place,
 };

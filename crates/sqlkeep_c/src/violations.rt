@@ -3,15 +3,15 @@ ghost use Rattle.std.specs.Prelude.{◌≡◌, ◌≢◌, length, slice_get, Non
 ghost use Rattle.iv_machine.specs.declared.database.Which.TheVariants.{Deferred};
 ghost use Rattle.iv_machine.specs.Databases.{is_chosen, scan};
 ghost use Rattle.sqlkeep_c.specs.Calls.{Called};
-ghost use Rattle.iv_connection.specs.Copying.{Copies};
-ghost use Rattle.iv_connection.specs.Cells.{cell_of, text_of};
-ghost use Rattle.iv_connection.specs.Pending.{violation_shown, violation_value};
-ghost use Rattle.iv_connection.specs.Statuses.{found};
+ghost use Rattle.iv_shown.specs.Copying.{Copies};
+ghost use Rattle.iv_shown.specs.Cells.{cell_of, text_of};
+ghost use Rattle.iv_shown.specs.Pending.{violation_shown, violation_value};
+ghost use Rattle.iv_shown.specs.Statuses.{found};
 ghost use Rattle.sqlkeep_c.specs.Statuses.{IsStatus, status_by};
-ghost use Rattle.iv_connection.specs.Texts.{constraint_named};
+ghost use Rattle.iv_shown.specs.Texts.{constraint_named};
 
 use crate::handle::{Handle, put, take};
-use iv_connection::{
+use iv_shown::{
     CLOSED, Cell, NO_MEMORY, NOTHING, OK, ShownViolation, constraint_named, copied, copy_text,
     keep_pending, violation_shown, violation_value, write_value,
 };

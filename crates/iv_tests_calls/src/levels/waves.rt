@@ -3,7 +3,7 @@ use super::changes::{Changed, Planned, add, wave};
 use super::shown::{show_changes, show_columns};
 use super::statements::{Doing, statement};
 use crate::shown::show_number;
-use iv_exec_transitions::{level_columns, transitions, transitions_of};
+use iv_exec_triggers::{level_columns, transitions, transitions_of};
 use iv_expr::{TableId, Wave};
 use iv_syntax::TriggerEvent;
 use std::alloc::Global;

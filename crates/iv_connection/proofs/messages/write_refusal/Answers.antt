@@ -1,4 +1,4 @@
-use Rattle.iv_print.proofs.WriteLemmas.{writes_then}
+use Rattle.iv_text.proofs.WriteLemmas.{writes_then}
 use Rattle.iv_connection.specs.Messages.{heading, refusal_parts}
 use Rattle.iv_connection.proofs.messages.write_refusal.Goals as goal
 

@@ -1,7 +1,7 @@
 use Rattle.std.proofs.Common.{◌≡◌, ℕ, List, refl, ap, sym, subst, ◌∙◌, arith}
 use Rattle.iv_expr.specs.declared.wave.TableColumn.{TableColumn}
 use Rattle.iv_machine.specs.Levels.{Firing, firings_run, nested_level}
-use Rattle.iv_exec_transitions.specs.ByTable.{all_firings}
+use Rattle.iv_exec_triggers.specs.ByTable.{all_firings}
 use Rattle.iv_catalogue.specs.Refusals.{is_memory_cause}
 use Rattle.iv_account.specs.Accounts.{firings_told, nested_told}
 use Rattle.iv_account.specs.Telling.{and_told}

@@ -2,7 +2,7 @@ use Rattle.std.proofs.Common.{length, ◌-◌, ◌≡◌, ◌≤◌, map, ◌+�
 use Rattle.std.specs.List.{enumerate_from}
 use Rattle.iv_machine.specs.Levels.{Firing, body_run, firings_run, nested_level, row_firing}
 use Rattle.iv_machine.specs.BeforeTriggers.{placed_statements}
-use Rattle.iv_exec_transitions.specs.ByTable.{all_firings}
+use Rattle.iv_exec_triggers.specs.ByTable.{all_firings}
 use Rattle.iv_exec_waves.specs.Running.{LeavesStore}
 use Rattle.iv_account.specs.Accounts.{body_told, firings_told, nested_told}
 use Rattle.iv_account.specs.Telling.{and_told}

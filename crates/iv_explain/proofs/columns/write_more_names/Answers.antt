@@ -2,7 +2,7 @@ use Rattle.std.proofs.Common.{◌≡◌, ◌∷◌, List, map, rules, ap}
 use Rattle.std.specs.List.{flat_map}
 use Rattle.iv_catalogue.specs.declared.catalogue.Column.{Column}
 use Rattle.iv_explain.specs.Columns.{further_in}
-use Rattle.iv_print.proofs.WriteLemmas.{wrote_step}
+use Rattle.iv_text.proofs.WriteLemmas.{wrote_step}
 use Rattle.iv_explain.proofs.columns.write_more_names.Goals as goal
 
 pub loop-column-preserved : goal.loop-column-preserved

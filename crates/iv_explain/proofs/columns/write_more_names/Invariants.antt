@@ -2,7 +2,7 @@ use Rattle.std.proofs.Common.{length, map}
 use Rattle.std.specs.List.{flat_map}
 use Rattle.iv_catalogue.specs.declared.catalogue.Column.{Column}
 use Rattle.iv_explain.specs.Columns.{further_in}
-use Rattle.iv_print.proofs.WriteLemmas.{Wrote}
+use Rattle.iv_text.proofs.WriteLemmas.{Wrote}
 use Rattle.iv_explain.proofs.columns.write_more_names.Given as goal
 
 abbrev pub invariant-loop-column : goal.invariant-loop-column

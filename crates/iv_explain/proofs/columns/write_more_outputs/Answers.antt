@@ -2,7 +2,7 @@ use Rattle.std.proofs.Common.{◌≡◌, ◌∷◌, List, map, rules, ap}
 use Rattle.std.specs.List.{flat_map}
 use Rattle.iv_syntax.specs.declared.tree.Expression.{Expression}
 use Rattle.iv_explain.specs.Columns.{further_in, output_text}
-use Rattle.iv_print.proofs.WriteLemmas.{wrote_step}
+use Rattle.iv_text.proofs.WriteLemmas.{wrote_step}
 use Rattle.iv_explain.proofs.columns.write_more_outputs.Goals as goal
 
 pub loop-expression-preserved : goal.loop-expression-preserved

@@ -2,7 +2,7 @@ use Rattle.std.proofs.Common.{length, map}
 use Rattle.std.specs.List.{flat_map}
 use Rattle.iv_syntax.specs.declared.tree.Expression.{Expression}
 use Rattle.iv_explain.specs.Columns.{further_in, output_text}
-use Rattle.iv_print.proofs.WriteLemmas.{Wrote}
+use Rattle.iv_text.proofs.WriteLemmas.{Wrote}
 use Rattle.iv_explain.proofs.columns.write_more_outputs.Given as goal
 
 abbrev pub invariant-loop-expression : goal.invariant-loop-expression

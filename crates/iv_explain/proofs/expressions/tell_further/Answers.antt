@@ -2,9 +2,9 @@ use Rattle.std.proofs.Common.{◌≡◌, [], ◌∷◌, ◌∙◌, ℕ, List, ru
 use Rattle.std.proofs.lemmas.Grind.{common_steps}
 use Rattle.std.specs.List.{flat_map}
 use Rattle.iv_explain.specs.Expressions.{further_name}
-use Rattle.iv_print.proofs.WriteLemmas.{wrote_all, wrote_step}
-use Rattle.iv_print.specs.Spelled.{spelled}
-use Rattle.iv_print.proofs.SpelledLemmas.{spelled_append, spelled_none}
+use Rattle.iv_text.proofs.WriteLemmas.{wrote_all, wrote_step}
+use Rattle.iv_text.specs.Spelled.{spelled}
+use Rattle.iv_text.proofs.SpelledLemmas.{spelled_append, spelled_none}
 use Rattle.iv_explain.proofs.expressions.tell_further.Goals as goal
 
 pub loop-name-preserved : goal.loop-name-preserved

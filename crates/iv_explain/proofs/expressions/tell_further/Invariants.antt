@@ -1,8 +1,8 @@
 use Rattle.std.proofs.Common.{length}
 use Rattle.std.specs.List.{flat_map}
 use Rattle.iv_explain.specs.Expressions.{further_name}
-use Rattle.iv_print.proofs.WriteLemmas.{Wrote}
-use Rattle.iv_print.specs.Spelled.{spelled}
+use Rattle.iv_text.proofs.WriteLemmas.{Wrote}
+use Rattle.iv_text.specs.Spelled.{spelled}
 use Rattle.iv_explain.proofs.expressions.tell_further.Given as goal
 
 abbrev pub invariant-loop-name : goal.invariant-loop-name

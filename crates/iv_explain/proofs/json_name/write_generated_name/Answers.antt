@@ -1,5 +1,5 @@
 use Rattle.std.proofs.Common.{ℕ, List, subst}
-use Rattle.iv_print.specs.Writing.{Writes}
+use Rattle.iv_text.specs.Writing.{Writes}
 use Rattle.iv_explain.proofs.GeneratedNames.{parts_are}
 use Rattle.iv_explain.proofs.json_name.write_generated_name.Goals as goal
 

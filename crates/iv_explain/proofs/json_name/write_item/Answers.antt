@@ -1,5 +1,5 @@
 use Rattle.std.proofs.Common.{subst, sym}
-use Rattle.iv_print.specs.Writing.{Writes}
+use Rattle.iv_text.specs.Writing.{Writes}
 use Rattle.iv_resolve_name_faults.specs.Seen.{item_seen}
 use Rattle.iv_resolve_name_faults.specs.declared.item.NamedItem.{NamedItem}
 use Rattle.iv_explain.specs.JsonNames.{item_members}

@@ -1,9 +1,9 @@
 use Rattle.std.proofs.Common.{subst, sym}
-use Rattle.iv_print.specs.Writing.{Writes}
+use Rattle.iv_text.specs.Writing.{Writes}
 use Rattle.iv_resolve_name_faults.specs.Seen.{item_seen}
 use Rattle.iv_resolve_name_faults.specs.declared.item.NamedItem.{NamedItem}
 use Rattle.iv_explain.specs.Names.{item_text}
-use Rattle.iv_print.specs.Spelled.{spelled}
+use Rattle.iv_text.specs.Spelled.{spelled}
 use Rattle.iv_explain.proofs.names.tell_item.Goals as goal
 
 pub returns-in-Transition : goal.returns-in-Transition

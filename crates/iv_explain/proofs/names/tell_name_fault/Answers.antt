@@ -1,9 +1,9 @@
 use Rattle.std.proofs.Common.{subst, sym}
-use Rattle.iv_print.specs.Writing.{Writes}
+use Rattle.iv_text.specs.Writing.{Writes}
 use Rattle.iv_resolve_name_faults.specs.Seen.{fault_seen}
 use Rattle.iv_resolve_name_faults.specs.declared.item.NameFault.{NameFault}
 use Rattle.iv_explain.specs.Names.{fault_text}
-use Rattle.iv_print.specs.Spelled.{spelled}
+use Rattle.iv_text.specs.Spelled.{spelled}
 use Rattle.iv_explain.proofs.names.tell_name_fault.Goals as goal
 
 pub returns-in-Unknown : goal.returns-in-Unknown

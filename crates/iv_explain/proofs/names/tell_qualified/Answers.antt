@@ -1,5 +1,5 @@
 use Rattle.std.proofs.Common.{◌++◌, ◌∙◌, ℕ, List, codes, ap, sym}
-use Rattle.iv_print.proofs.SpelledLemmas.{three}
+use Rattle.iv_text.proofs.SpelledLemmas.{three}
 use Rattle.iv_explain.proofs.names.tell_qualified.Goals as goal
 
 pub returns : goal.returns

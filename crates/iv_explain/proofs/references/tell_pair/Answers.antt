@@ -1,6 +1,6 @@
 use Rattle.std.proofs.Common.{◌++◌, codes, refl}
 use Rattle.iv_explain.specs.Reasons.{own_text, typed_text}
-use Rattle.iv_print.proofs.SpelledLemmas.{two}
+use Rattle.iv_text.proofs.SpelledLemmas.{two}
 use Rattle.iv_explain.proofs.references.tell_pair.Goals as goal
 
 pub returns : goal.returns

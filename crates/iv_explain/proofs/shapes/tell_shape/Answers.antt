@@ -1,9 +1,9 @@
 use Rattle.std.proofs.Common.{subst, sym}
-use Rattle.iv_print.specs.Writing.{Writes}
+use Rattle.iv_text.specs.Writing.{Writes}
 use Rattle.iv_resolve_reasons.specs.Seen.{shape_seen}
 use Rattle.iv_resolve_reasons.specs.declared.shape.ShapeFault.{ShapeFault}
 use Rattle.iv_explain.specs.Reasons.{shape_text}
-use Rattle.iv_print.specs.Spelled.{spelled}
+use Rattle.iv_text.specs.Spelled.{spelled}
 use Rattle.iv_explain.proofs.shapes.tell_shape.Goals as goal
 
 pub returns-in-QueryCount : goal.returns-in-QueryCount

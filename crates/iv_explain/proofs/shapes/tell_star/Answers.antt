@@ -1,6 +1,6 @@
 use Rattle.std.proofs.Common.{◌++◌, codes, refl}
 use Rattle.iv_explain.specs.Reasons.{typed_text}
-use Rattle.iv_print.proofs.SpelledLemmas.{two}
+use Rattle.iv_text.proofs.SpelledLemmas.{two}
 use Rattle.iv_explain.proofs.shapes.tell_star.Goals as goal
 
 pub returns : goal.returns

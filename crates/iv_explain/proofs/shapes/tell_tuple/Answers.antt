@@ -1,7 +1,7 @@
 use Rattle.std.proofs.Common.{◌++◌, codes, refl}
 use Rattle.std.proofs.Common.{decimal}
 use Rattle.iv_explain.specs.Reasons.{counts_text}
-use Rattle.iv_print.proofs.SpelledLemmas.{three}
+use Rattle.iv_text.proofs.SpelledLemmas.{three}
 use Rattle.iv_explain.proofs.shapes.tell_tuple.Goals as goal
 
 pub returns : goal.returns

@@ -1,6 +1,6 @@
 use Rattle.std.proofs.Common.{◌≡◌, ◌∷◌, rules, ap}
 use Rattle.iv_print.specs.AccountLines.{action_line, action_lines}
-use Rattle.iv_print.proofs.WriteLemmas.{wrote_step}
+use Rattle.iv_text.proofs.WriteLemmas.{wrote_step}
 use Rattle.iv_print.proofs.account.write_actions.Goals as goal
 
 pub loop-acted-preserved : goal.loop-acted-preserved

@@ -1,6 +1,6 @@
 use Rattle.std.proofs.Common.{length}
 use Rattle.iv_print.specs.AccountLines.{action_lines}
-use Rattle.iv_print.proofs.WriteLemmas.{Wrote}
+use Rattle.iv_text.proofs.WriteLemmas.{Wrote}
 use Rattle.iv_print.proofs.account.write_actions.Given as goal
 
 abbrev pub invariant-loop-acted : goal.invariant-loop-acted

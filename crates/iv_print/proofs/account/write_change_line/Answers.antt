@@ -1,4 +1,4 @@
-use Rattle.iv_print.proofs.WriteLemmas.{writes_then}
+use Rattle.iv_text.proofs.WriteLemmas.{writes_then}
 use Rattle.iv_print.proofs.account.write_change_line.Goals as goal
 
 pub returns : goal.returns

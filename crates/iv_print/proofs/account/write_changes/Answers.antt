@@ -1,6 +1,6 @@
 use Rattle.std.proofs.Common.{◌≡◌, ◌∷◌, rules, ap}
 use Rattle.iv_print.specs.AccountLines.{change_line, change_lines}
-use Rattle.iv_print.proofs.WriteLemmas.{wrote_step}
+use Rattle.iv_text.proofs.WriteLemmas.{wrote_step}
 use Rattle.iv_print.proofs.account.write_changes.Goals as goal
 
 pub loop-change-preserved : goal.loop-change-preserved

@@ -1,6 +1,6 @@
 use Rattle.std.proofs.Common.{length}
 use Rattle.iv_print.specs.AccountLines.{change_lines}
-use Rattle.iv_print.proofs.WriteLemmas.{Wrote}
+use Rattle.iv_text.proofs.WriteLemmas.{Wrote}
 use Rattle.iv_print.proofs.account.write_changes.Given as goal
 
 abbrev pub invariant-loop-change : goal.invariant-loop-change

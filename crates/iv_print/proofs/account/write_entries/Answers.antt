@@ -1,7 +1,8 @@
 use Rattle.std.proofs.Common.{◌≡◌, ◌∷◌, length, rules, subst, sym, ◌+◌, ◌≤◌}
 use Rattle.iv_print.specs.AccountLines.{entry_text, entries_text}
-use Rattle.iv_print.proofs.WriteLemmas.{wrote_step}
-use Rattle.iv_print.proofs.AccountLemmas.{depth_bounded, entries_step}
+use Rattle.iv_text.proofs.WriteLemmas.{wrote_step}
+use Rattle.iv_text.proofs.WayLemmas.{depth_bounded}
+use Rattle.iv_print.proofs.AccountLemmas.{entries_step}
 use Rattle.iv_print.proofs.account.write_entries.Goals as goal
 
 pub loop-entry-preserved : goal.loop-entry-preserved

@@ -1,6 +1,6 @@
 use Rattle.std.proofs.Common.{◌≤◌, ◌+◌, length}
 use Rattle.iv_print.specs.AccountLines.{entries_text}
-use Rattle.iv_print.proofs.WriteLemmas.{Wrote}
+use Rattle.iv_text.proofs.WriteLemmas.{Wrote}
 use Rattle.iv_print.proofs.account.write_entries.Given as goal
 
 abbrev pub invariant-loop-entry : goal.invariant-loop-entry

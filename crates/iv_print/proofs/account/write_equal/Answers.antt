@@ -1,8 +1,8 @@
 use Rattle.std.proofs.Common.{◌++◌, codes, subst}
-use Rattle.iv_print.specs.Writing.{Writes}
-use Rattle.iv_print.specs.Lines.{row_number_text}
+use Rattle.iv_text.specs.Writing.{Writes}
+use Rattle.iv_text.specs.Lines.{row_number_text}
 use Rattle.iv_print.specs.AccountLines.{listed_text}
-use Rattle.iv_print.proofs.WriteLemmas.{writes_then}
+use Rattle.iv_text.proofs.WriteLemmas.{writes_then}
 use Rattle.iv_print.proofs.account.write_equal.Goals as goal
 
 pub returns : goal.returns

@@ -1,7 +1,7 @@
 use Rattle.std.proofs.Common.{ℕ, codes, slice_get, subst}
-use Rattle.iv_print.specs.Writing.{Writes}
+use Rattle.iv_text.specs.Writing.{Writes}
 use Rattle.iv_print.specs.AccountLines.{column_name_in}
-use Rattle.iv_print.proofs.WriteLemmas.{writes_then}
+use Rattle.iv_text.proofs.WriteLemmas.{writes_then}
 use Rattle.iv_print.proofs.account.write_null.Goals as goal
 
 pub returns : goal.returns

@@ -1,8 +1,8 @@
 use Rattle.std.proofs.Common.{◌++◌, codes, slice_get, subst}
 use Rattle.iv_key.specs.Keys.{key_of}
-use Rattle.iv_print.specs.Writing.{Writes}
+use Rattle.iv_text.specs.Writing.{Writes}
 use Rattle.iv_print.specs.AccountLines.{table_name, listed_text}
-use Rattle.iv_print.proofs.WriteLemmas.{writes_then}
+use Rattle.iv_text.proofs.WriteLemmas.{writes_then}
 use Rattle.iv_print.proofs.account.write_referenced.Goals as goal
 
 pub returns : goal.returns

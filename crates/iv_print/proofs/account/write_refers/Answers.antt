@@ -1,7 +1,7 @@
 use Rattle.std.proofs.Common.{◌∙◌, subst}
-use Rattle.iv_print.specs.Writing.{Writes}
+use Rattle.iv_text.specs.Writing.{Writes}
 use Rattle.iv_print.specs.AccountLines.{referenced_text, reference_words_of}
-use Rattle.iv_print.proofs.WriteLemmas.{writes_then}
+use Rattle.iv_text.proofs.WriteLemmas.{writes_then}
 use Rattle.iv_print.proofs.account.write_refers.Goals as goal
 
 pub returns : goal.returns

@@ -2,8 +2,8 @@ use Rattle.std.proofs.Common.{List, slice_get, subst, sym}
 use Rattle.iv_value.specs.declared.value.Value.{Value}
 use Rattle.iv_catalogue.specs.declared.constraint.Rule.{Rule}
 use Rattle.iv_print.specs.AccountLines.{check_text, rule_text}
-use Rattle.iv_print.specs.Rules.{columns_of}
-use Rattle.iv_print.specs.Writing.{Writes}
+use Rattle.iv_text.specs.Rules.{columns_of}
+use Rattle.iv_text.specs.Writing.{Writes}
 use Rattle.iv_print.proofs.account.write_rule.Goals as goal
 
 pub returns-in-Check : goal.returns-in-Check

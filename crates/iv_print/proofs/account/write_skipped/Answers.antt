@@ -1,6 +1,6 @@
 use Rattle.std.proofs.Common.{codes, subst, Ok, ◌∙◌}
-use Rattle.iv_print.specs.Writing.{Writes}
-use Rattle.iv_print.proofs.WriteLemmas.{writes_then}
+use Rattle.iv_text.specs.Writing.{Writes}
+use Rattle.iv_text.proofs.WriteLemmas.{writes_then}
 use Rattle.iv_print.proofs.account.write_skipped.Goals as goal
 
 pub returns : goal.returns

@@ -1,6 +1,6 @@
 use Rattle.std.proofs.Common.{◌-◌, codes}
 use Rattle.iv_print.specs.AccountLines.{spaces}
-use Rattle.iv_print.proofs.WriteLemmas.{wrote_step}
+use Rattle.iv_text.proofs.WriteLemmas.{wrote_step}
 use Rattle.iv_print.proofs.AccountLemmas.{spaces_step}
 use Rattle.iv_print.proofs.account.write_spaces.Goals as goal
 

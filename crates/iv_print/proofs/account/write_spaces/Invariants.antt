@@ -1,5 +1,5 @@
 use Rattle.iv_print.specs.AccountLines.{spaces}
-use Rattle.iv_print.proofs.WriteLemmas.{Wrote}
+use Rattle.iv_text.proofs.WriteLemmas.{Wrote}
 use Rattle.iv_print.proofs.account.write_spaces.Given as goal
 
 abbrev pub invariant-loop-left : goal.invariant-loop-left

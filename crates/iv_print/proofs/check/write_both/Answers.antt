@@ -1,8 +1,8 @@
 use Rattle.std.proofs.Common.{codes}
-use Rattle.iv_print.specs.Conditions.{condition_text}
-use Rattle.iv_print.specs.Json.{json_text, member}
-use Rattle.iv_print.specs.declared.condition.Shown.TheVariants.{Names}
-use Rattle.iv_print.proofs.WriteLemmas.{writes_then}
+use Rattle.iv_text.specs.Conditions.{condition_text}
+use Rattle.iv_text.specs.Json.{json_text, member}
+use Rattle.iv_text.specs.declared.condition.Shown.TheVariants.{Names}
+use Rattle.iv_text.proofs.WriteLemmas.{writes_then}
 use Rattle.iv_print.proofs.check.write_both.Goals as goal
 
 pub returns : goal.returns

@@ -1,8 +1,8 @@
 use Rattle.std.proofs.Common.{List, Option, slice_get, subst, ap, ◌∙◌}
 use Rattle.iv_catalogue.specs.declared.catalogue.Column.{Column}
 use Rattle.iv_print.specs.JsonAccounts.{check_members}
-use Rattle.iv_print.specs.Rules.{columns_of}
-use Rattle.iv_print.specs.Writing.{Writes}
+use Rattle.iv_text.specs.Rules.{columns_of}
+use Rattle.iv_text.specs.Writing.{Writes}
 use Rattle.iv_print.proofs.check.write_check_members.Goals as goal
 
 pub returns : goal.returns

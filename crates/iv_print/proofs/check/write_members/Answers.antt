@@ -1,6 +1,6 @@
 use Rattle.std.proofs.Common.{codes}
 use Rattle.iv_print.specs.JsonAccounts.{because}
-use Rattle.iv_print.proofs.WriteLemmas.{writes_then}
+use Rattle.iv_text.proofs.WriteLemmas.{writes_then}
 use Rattle.iv_print.proofs.check.write_members.Goals as goal
 
 pub returns : goal.returns

@@ -1,8 +1,8 @@
 use Rattle.std.proofs.Common.{List, codes, slice_get, subst, Ok}
 use Rattle.iv_catalogue.specs.declared.constraint.Constraint.{Constraint}
-use Rattle.iv_print.specs.Lines.{name_of}
-use Rattle.iv_print.specs.Writing.{Writes}
-use Rattle.iv_print.proofs.WriteLemmas.{writes_then}
+use Rattle.iv_text.specs.Lines.{name_of}
+use Rattle.iv_text.specs.Writing.{Writes}
+use Rattle.iv_text.proofs.WriteLemmas.{writes_then}
 use Rattle.iv_print.proofs.conflict.write_later.Goals as goal
 
 pub returns : goal.returns

@@ -1,5 +1,5 @@
 use Rattle.std.proofs.Common.{◌++◌, codes, decimal}
-use Rattle.iv_print.proofs.WriteLemmas.{writes_then}
+use Rattle.iv_text.proofs.WriteLemmas.{writes_then}
 use Rattle.iv_print.proofs.failure.write_lengths.Goals as goal
 
 pub returns : goal.returns

@@ -1,8 +1,8 @@
 use Rattle.std.proofs.Common.{subst, sym}
 use Rattle.iv_account.specs.declared.failure.EvaluatedFor.{EvaluatedFor}
 use Rattle.iv_print.specs.AccountLines.{part_name}
-use Rattle.iv_print.specs.Writing.{Writes}
-use Rattle.iv_print.proofs.WriteLemmas.{writes_then}
+use Rattle.iv_text.specs.Writing.{Writes}
+use Rattle.iv_text.proofs.WriteLemmas.{writes_then}
 use Rattle.iv_print.proofs.failure.write_part.Goals as goal
 
 pub returns-in_ok-write_all-in-Item : goal.returns-in_ok-write_all-in-Item

@@ -1,7 +1,7 @@
 use Rattle.std.proofs.Common.{◌++◌, codes, rules}
 use Rattle.std.specs.Fmt.{signed_decimal}
 use Rattle.iv_print.specs.AccountLines.{operator_text}
-use Rattle.iv_print.proofs.WriteLemmas.{writes_then}
+use Rattle.iv_text.proofs.WriteLemmas.{writes_then}
 use Rattle.iv_print.proofs.failure.write_right.Goals as goal
 
 pub returns : goal.returns

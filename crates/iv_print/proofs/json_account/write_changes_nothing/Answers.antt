@@ -1,6 +1,6 @@
 use Rattle.std.proofs.Common.{codes}
-use Rattle.iv_print.specs.Json.{member}
-use Rattle.iv_print.proofs.WriteLemmas.{writes_then}
+use Rattle.iv_text.specs.Json.{member}
+use Rattle.iv_text.proofs.WriteLemmas.{writes_then}
 use Rattle.iv_print.proofs.json_account.write_changes_nothing.Goals as goal
 
 pub returns : goal.returns

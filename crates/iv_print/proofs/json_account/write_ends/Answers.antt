@@ -1,6 +1,6 @@
 use Rattle.std.proofs.Common.{◌-◌, codes}
 use Rattle.iv_print.specs.JsonAccounts.{ends}
-use Rattle.iv_print.proofs.WriteLemmas.{wrote_step}
+use Rattle.iv_text.proofs.WriteLemmas.{wrote_step}
 use Rattle.iv_print.proofs.JsonLemmas.{ends_step}
 use Rattle.iv_print.proofs.json_account.write_ends.Goals as goal
 

@@ -1,5 +1,5 @@
 use Rattle.iv_print.specs.JsonAccounts.{ends}
-use Rattle.iv_print.proofs.WriteLemmas.{Wrote}
+use Rattle.iv_text.proofs.WriteLemmas.{Wrote}
 use Rattle.iv_print.proofs.json_account.write_ends.Given as goal
 
 abbrev pub invariant-loop-left : goal.invariant-loop-left

@@ -1,8 +1,8 @@
 use Rattle.std.proofs.Common.{◌≡◌, ◌∷◌, [], ◌++◌, length, rules, arith, subst, sym, true, ◌+◌, ◌≤◌, ap}
 use Rattle.std.proofs.lemmas.Grind.{common_steps}
 use Rattle.iv_print.specs.JsonAccounts.{json_entries, json_entry, separator}
-use Rattle.iv_print.proofs.WriteLemmas.{wrote_last, wrote_step}
-use Rattle.iv_print.proofs.AccountLemmas.{depth_bounded}
+use Rattle.iv_text.proofs.WriteLemmas.{wrote_last, wrote_step}
+use Rattle.iv_text.proofs.WayLemmas.{depth_bounded}
 use Rattle.iv_print.proofs.JsonLemmas.{entries_step}
 use Rattle.iv_print.proofs.json_account.write_entries.Goals as goal
 

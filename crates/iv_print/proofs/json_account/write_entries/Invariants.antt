@@ -1,6 +1,6 @@
 use Rattle.std.proofs.Common.{◌≤◌, ◌+◌, length, true}
 use Rattle.iv_print.specs.JsonAccounts.{json_entries}
-use Rattle.iv_print.proofs.WriteLemmas.{Wrote}
+use Rattle.iv_text.proofs.WriteLemmas.{Wrote}
 use Rattle.iv_print.proofs.json_account.write_entries.Given as goal
 
 abbrev pub invariant-loop-entry : goal.invariant-loop-entry

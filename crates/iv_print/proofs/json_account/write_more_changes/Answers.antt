@@ -1,7 +1,7 @@
 use Rattle.std.proofs.Common.{◌≡◌, ◌∷◌, rules, ap}
 use Rattle.std.specs.List.{flat_map}
 use Rattle.iv_print.specs.JsonAccounts.{further_change}
-use Rattle.iv_print.proofs.WriteLemmas.{wrote_step}
+use Rattle.iv_text.proofs.WriteLemmas.{wrote_step}
 use Rattle.iv_print.proofs.json_account.write_more_changes.Goals as goal
 
 pub loop-change-preserved : goal.loop-change-preserved

@@ -1,7 +1,7 @@
 use Rattle.std.proofs.Common.{length}
 use Rattle.std.specs.List.{flat_map}
 use Rattle.iv_print.specs.JsonAccounts.{further_change}
-use Rattle.iv_print.proofs.WriteLemmas.{Wrote}
+use Rattle.iv_text.proofs.WriteLemmas.{Wrote}
 use Rattle.iv_print.proofs.json_account.write_more_changes.Given as goal
 
 abbrev pub invariant-loop-change : goal.invariant-loop-change

@@ -1,8 +1,8 @@
 use Rattle.std.proofs.Common.{◌≡◌, ◌∷◌, List, ℕ, rules, ap}
 use Rattle.std.specs.List.{flat_map}
 use Rattle.iv_key.specs.Keys.{key_of, value_at}
-use Rattle.iv_print.specs.Json.{further_value}
-use Rattle.iv_print.proofs.WriteLemmas.{wrote_step}
+use Rattle.iv_text.specs.Json.{further_value}
+use Rattle.iv_text.proofs.WriteLemmas.{wrote_step}
 use Rattle.iv_print.proofs.json_account.write_more_columns.Goals as goal
 
 pub loop-column-preserved : goal.loop-column-preserved

@@ -1,8 +1,8 @@
 use Rattle.std.proofs.Common.{length}
 use Rattle.std.specs.List.{flat_map}
 use Rattle.iv_key.specs.Keys.{key_of}
-use Rattle.iv_print.specs.Json.{further_value}
-use Rattle.iv_print.proofs.WriteLemmas.{Wrote}
+use Rattle.iv_text.specs.Json.{further_value}
+use Rattle.iv_text.proofs.WriteLemmas.{Wrote}
 use Rattle.iv_print.proofs.json_account.write_more_columns.Given as goal
 
 abbrev pub invariant-loop-column : goal.invariant-loop-column

@@ -1,7 +1,7 @@
 use Rattle.std.proofs.Common.{◌≡◌, ◌∷◌, rules, ap}
 use Rattle.std.specs.List.{flat_map}
 use Rattle.iv_print.specs.JsonAccounts.{further_action}
-use Rattle.iv_print.proofs.WriteLemmas.{wrote_step}
+use Rattle.iv_text.proofs.WriteLemmas.{wrote_step}
 use Rattle.iv_print.proofs.json_action.write_more_actions.Goals as goal
 
 pub loop-acted-preserved : goal.loop-acted-preserved

@@ -1,7 +1,7 @@
 use Rattle.std.proofs.Common.{length}
 use Rattle.std.specs.List.{flat_map}
 use Rattle.iv_print.specs.JsonAccounts.{further_action}
-use Rattle.iv_print.proofs.WriteLemmas.{Wrote}
+use Rattle.iv_text.proofs.WriteLemmas.{Wrote}
 use Rattle.iv_print.proofs.json_action.write_more_actions.Given as goal
 
 abbrev pub invariant-loop-acted : goal.invariant-loop-acted

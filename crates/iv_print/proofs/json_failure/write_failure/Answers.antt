@@ -1,6 +1,6 @@
 use Rattle.std.proofs.Common.{codes}
 use Rattle.iv_print.specs.JsonAccounts.{entry_key, failure_members, hand_members, part_members}
-use Rattle.iv_print.proofs.WriteLemmas.{writes_then}
+use Rattle.iv_text.proofs.WriteLemmas.{writes_then}
 use Rattle.iv_print.proofs.json_failure.write_failure.Goals as goal
 
 pub returns : goal.returns

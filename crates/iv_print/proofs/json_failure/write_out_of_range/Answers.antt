@@ -1,6 +1,6 @@
 use Rattle.std.proofs.Common.{codes, rules}
 use Rattle.iv_print.specs.JsonAccounts.{because, integer_member, operator_member}
-use Rattle.iv_print.proofs.WriteLemmas.{writes_then}
+use Rattle.iv_text.proofs.WriteLemmas.{writes_then}
 use Rattle.iv_print.proofs.json_failure.write_out_of_range.Goals as goal
 
 pub returns : goal.returns

@@ -1,6 +1,6 @@
-use Rattle.iv_print.specs.Json.{json_text}
-use Rattle.iv_print.specs.Spelled.{spelled}
-use Rattle.iv_print.proofs.WriteLemmas.{writes_then}
+use Rattle.iv_text.specs.Json.{json_text}
+use Rattle.iv_text.specs.Spelled.{spelled}
+use Rattle.iv_text.proofs.WriteLemmas.{writes_then}
 use Rattle.iv_print.proofs.json_way.write_text.Goals as goal
 
 pub returns : goal.returns

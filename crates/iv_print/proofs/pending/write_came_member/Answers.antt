@@ -1,10 +1,10 @@
 use Rattle.std.proofs.Common.{codes, Ok, subst, sym}
 use Rattle.iv_machine.specs.declared.answer.Answer.TheVariants.{Done}
-use Rattle.iv_print.specs.Json.{member}
+use Rattle.iv_text.specs.Json.{member}
 use Rattle.iv_print.specs.JsonAccounts.{entry_list}
-use Rattle.iv_print.specs.Writing.{Writes}
+use Rattle.iv_text.specs.Writing.{Writes}
 use Rattle.iv_print.proofs.PendingLemmas.{came_some}
-use Rattle.iv_print.proofs.WriteLemmas.{writes_then}
+use Rattle.iv_text.proofs.WriteLemmas.{writes_then}
 use Rattle.iv_print.proofs.pending.write_came_member.Goals as goal
 
 pub returns-in_ok-write_member-in-len1-up : goal.returns-in_ok-write_member-in-len1-up

@@ -1,7 +1,7 @@
 use Rattle.std.proofs.Common.{◌≡◌, ◌∷◌, rules, ap}
 use Rattle.std.specs.List.{flat_map}
 use Rattle.iv_print.specs.PendingLines.{further_went}
-use Rattle.iv_print.proofs.WriteLemmas.{wrote_step}
+use Rattle.iv_text.proofs.WriteLemmas.{wrote_step}
 use Rattle.iv_print.proofs.pending.write_more_went.Goals as goal
 
 pub loop-fault-preserved : goal.loop-fault-preserved

@@ -1,7 +1,7 @@
 use Rattle.std.proofs.Common.{length}
 use Rattle.std.specs.List.{flat_map}
 use Rattle.iv_print.specs.PendingLines.{further_went}
-use Rattle.iv_print.proofs.WriteLemmas.{Wrote}
+use Rattle.iv_text.proofs.WriteLemmas.{Wrote}
 use Rattle.iv_print.proofs.pending.write_more_went.Given as goal
 
 abbrev pub invariant-loop-fault : goal.invariant-loop-fault

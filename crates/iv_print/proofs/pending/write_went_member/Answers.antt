@@ -1,5 +1,5 @@
 use Rattle.std.proofs.Common.{subst, sym}
-use Rattle.iv_print.specs.Writing.{Writes}
+use Rattle.iv_text.specs.Writing.{Writes}
 use Rattle.iv_print.proofs.PendingLemmas.{went_some}
 use Rattle.iv_print.proofs.pending.write_went_member.Goals as goal
 

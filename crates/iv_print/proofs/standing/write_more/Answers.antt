@@ -1,7 +1,7 @@
 use Rattle.std.proofs.Common.{◌≡◌, ◌∷◌, rules, ap}
 use Rattle.std.specs.List.{flat_map}
 use Rattle.iv_print.specs.AccountLines.{further_savepoint}
-use Rattle.iv_print.proofs.WriteLemmas.{wrote_step}
+use Rattle.iv_text.proofs.WriteLemmas.{wrote_step}
 use Rattle.iv_print.proofs.standing.write_more.Goals as goal
 
 pub loop-name-preserved : goal.loop-name-preserved

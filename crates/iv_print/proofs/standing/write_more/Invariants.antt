@@ -1,7 +1,7 @@
 use Rattle.std.proofs.Common.{length}
 use Rattle.std.specs.List.{flat_map}
 use Rattle.iv_print.specs.AccountLines.{further_savepoint}
-use Rattle.iv_print.proofs.WriteLemmas.{Wrote}
+use Rattle.iv_text.proofs.WriteLemmas.{Wrote}
 use Rattle.iv_print.proofs.standing.write_more.Given as goal
 
 abbrev pub invariant-loop-name : goal.invariant-loop-name

@@ -1,6 +1,6 @@
 use Rattle.std.proofs.Common.{◌≡◌, ◌∷◌, List, ℕ, rules, subst, sym}
 use Rattle.iv_print.specs.AccountLines.{standing_words}
-use Rattle.iv_print.specs.Writing.{Writes}
+use Rattle.iv_text.specs.Writing.{Writes}
 use Rattle.iv_print.proofs.standing.write_words.Goals as goal
 
 pub returns-in-Some : goal.returns-in-Some

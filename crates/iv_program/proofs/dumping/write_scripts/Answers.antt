@@ -1,7 +1,7 @@
 use Rattle.std.proofs.Common.{◌≡◌, ◌∷◌, ℕ, List, Ok, rules, ap, subst, string_bytes}
 use Rattle.std.specs.List.{flat_map}
-use Rattle.iv_print.specs.Writing.{Writes}
-use Rattle.iv_print.proofs.WriteLemmas.{wrote_step}
+use Rattle.iv_text.specs.Writing.{Writes}
+use Rattle.iv_text.proofs.WriteLemmas.{wrote_step}
 use Rattle.iv_program.proofs.dumping.write_scripts.Goals as goal
 
 pub loop-script-preserved : goal.loop-script-preserved

@@ -1,6 +1,6 @@
 use Rattle.std.proofs.Common.{length, string_bytes}
 use Rattle.std.specs.List.{flat_map}
-use Rattle.iv_print.proofs.WriteLemmas.{Wrote}
+use Rattle.iv_text.proofs.WriteLemmas.{Wrote}
 use Rattle.iv_program.proofs.dumping.write_scripts.Given as goal
 
 abbrev pub invariant-loop-script : goal.invariant-loop-script

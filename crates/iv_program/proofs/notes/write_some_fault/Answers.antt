@@ -1,5 +1,5 @@
 use Rattle.std.proofs.Common.{◌++◌, codes, decimal}
-use Rattle.iv_print.proofs.WriteLemmas.{writes_then}
+use Rattle.iv_text.proofs.WriteLemmas.{writes_then}
 use Rattle.iv_program.specs.Notes.{place_note}
 use Rattle.iv_program.proofs.notes.write_some_fault.Goals as goal
 

@@ -1,7 +1,7 @@
 use Rattle.std.proofs.Common.{length}
 use Rattle.std.specs.List.{flat_map}
 use Rattle.iv_script.specs.FaultLines.{shown}
-use Rattle.iv_print.proofs.WriteLemmas.{Wrote}
+use Rattle.iv_text.proofs.WriteLemmas.{Wrote}
 use Rattle.iv_script.proofs.caret.write_shown.Given as goal
 
 abbrev pub invariant-loop-byte : goal.invariant-loop-byte

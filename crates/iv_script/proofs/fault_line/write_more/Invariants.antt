@@ -1,7 +1,7 @@
 use Rattle.std.proofs.Common.{length}
 use Rattle.std.specs.List.{flat_map}
 use Rattle.iv_script.specs.FaultLines.{further_kind}
-use Rattle.iv_print.proofs.WriteLemmas.{Wrote}
+use Rattle.iv_text.proofs.WriteLemmas.{Wrote}
 use Rattle.iv_script.proofs.fault_line.write_more.Given as goal
 
 abbrev pub invariant-loop-kind : goal.invariant-loop-kind

@@ -1,7 +1,7 @@
 use Rattle.std.proofs.Common.{◌≡◌, ◌∷◌, rules, ap}
 use Rattle.std.specs.List.{flat_map}
 use Rattle.iv_script.specs.JsonLines.{further_text}
-use Rattle.iv_print.proofs.WriteLemmas.{wrote_step}
+use Rattle.iv_text.proofs.WriteLemmas.{wrote_step}
 use Rattle.iv_script.proofs.json_line.write_more_kinds.Goals as goal
 
 pub loop-kind-preserved : goal.loop-kind-preserved

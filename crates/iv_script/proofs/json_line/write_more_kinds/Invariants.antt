@@ -1,7 +1,7 @@
 use Rattle.std.proofs.Common.{length}
 use Rattle.std.specs.List.{flat_map}
 use Rattle.iv_script.specs.JsonLines.{further_text}
-use Rattle.iv_print.proofs.WriteLemmas.{Wrote}
+use Rattle.iv_text.proofs.WriteLemmas.{Wrote}
 use Rattle.iv_script.proofs.json_line.write_more_kinds.Given as goal
 
 abbrev pub invariant-loop-kind : goal.invariant-loop-kind

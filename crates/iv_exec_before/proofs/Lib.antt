@@ -1,3 +1,0 @@
-pub mod Untriggered
-mod InTurn
-pub mod Whens

@@ -1,5 +1,0 @@
-use Rattle.std.proofs.Common.{length}
-use Rattle.iv_exec_before.proofs.before.+run_all.Given as goal
-
-abbrev pub decreases-run_all : goal.decreases-run_all
-decreases-run_all g l = length l.triggers.now

@@ -1,5 +1,0 @@
-use Rattle.iv_exec_transitions.proofs.NamedColumns.{firings_by_name}
-use Rattle.iv_exec_transitions.proofs.laws.firings_are_by_name.Goals as goal
-
-pub returns : goal.returns
-returns c = firings_by_name

@@ -1,5 +1,0 @@
-pub mod Merging
-pub mod ByTable
-pub mod Distinct
-pub mod Laws
-pub mod MayFire

@@ -1,6 +1,0 @@
-use Rattle.std.proofs.Common.{sym}
-use Rattle.iv_print.proofs.ConditionLemmas.{is_product_times}
-use Rattle.iv_print.proofs.condition.is_product.Goals as goal
-
-pub returns-in-Times : goal.returns-in-Times
-returns-in-Times c = sym (is_product_times c.args.expr.now _ _ c.in-Times.is)

@@ -1,9 +1,0 @@
-use Rattle.iv_print.specs.Json.{json_text}
-use Rattle.iv_print.proofs.WriteLemmas.{writes_then}
-use Rattle.iv_print.proofs.json.write_json_text.Goals as goal
-
-pub returns : goal.returns
-unfolding json_text
-returns g c =
-    writes_then _ _ _ _ _ _ c.in_ok-write_all.ensures
-    (writes_then _ _ _ _ _ _ c.in_ok-write_json_bytes.ensures c.write_all-2.ensures)

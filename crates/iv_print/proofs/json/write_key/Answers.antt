@@ -1,9 +1,0 @@
-use Rattle.iv_print.specs.Json.{key}
-use Rattle.iv_print.proofs.WriteLemmas.{writes_then}
-use Rattle.iv_print.proofs.json.write_key.Goals as goal
-
-pub returns : goal.returns
-unfolding key
-returns g c =
-    writes_then _ _ _ _ _ _ c.in_ok-write_all.ensures
-    (writes_then _ _ _ _ _ _ c.in_ok-write_all-2.ensures c.write_all-3.ensures)

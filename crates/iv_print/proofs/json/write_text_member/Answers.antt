@@ -1,5 +1,0 @@
-use Rattle.iv_print.proofs.WriteLemmas.{writes_then}
-use Rattle.iv_print.proofs.json.write_text_member.Goals as goal
-
-pub returns : goal.returns
-returns g c = writes_then _ _ _ _ _ _ c.in_ok-write_member.ensures c.write_json_text.ensures

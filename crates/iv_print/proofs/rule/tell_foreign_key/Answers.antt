@@ -1,7 +1,0 @@
-use Rattle.iv_print.proofs.SpelledLemmas.{spelled_then}
-use Rattle.iv_print.proofs.rule.tell_foreign_key.Goals as goal
-
-pub returns : goal.returns
-returns g c =
-    spelled_then _ _ _ _ _ _ _ (rw c.as_bytes.ensures.value at c.in_ok-tell.ensures)
-    (spelled_then _ _ _ _ _ _ _ (rw c.as_slice.ensures at c.in_ok-tell_listed.ensures) c.tell_references.ensures)

@@ -1,5 +1,0 @@
-use Rattle.iv_print.proofs.SpelledLemmas.{spelled_then}
-use Rattle.iv_print.proofs.rule.tell_some_names.Goals as goal
-
-pub returns : goal.returns
-returns g c = spelled_then _ _ _ _ _ _ _ c.in_ok-tell_name.ensures c.tell_more_names.ensures

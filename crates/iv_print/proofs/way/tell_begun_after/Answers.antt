@@ -1,7 +1,0 @@
-use Rattle.iv_print.specs.Ways.{begun_after}
-use Rattle.iv_print.proofs.SpelledLemmas.{spelled_then}
-use Rattle.iv_print.proofs.way.tell_begun_after.Goals as goal
-
-pub returns : goal.returns
-unfolding begun_after
-returns g c = spelled_then _ _ _ _ _ _ _ c.in_ok-tell.ensures c.tell_begun_at.ensures

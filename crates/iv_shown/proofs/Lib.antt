@@ -1,0 +1,3 @@
+pub mod CellsComputed
+pub mod PlaceProofs
+pub mod Placing

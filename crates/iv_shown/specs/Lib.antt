@@ -1,0 +1,11 @@
+pub mod Accounts
+pub mod Catalogue
+pub mod Cells
+pub mod Copying
+pub mod Pending
+pub mod Places
+pub mod Rows
+pub mod Statuses
+pub mod StoredRows
+pub mod Texts
+pub mod WorkedCells

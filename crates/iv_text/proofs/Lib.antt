@@ -1,0 +1,6 @@
+pub mod WriteLemmas
+pub mod SpelledLemmas
+pub mod ConditionLemmas
+pub mod WayLemmas
+pub mod Worked
+pub mod CauseLemmas

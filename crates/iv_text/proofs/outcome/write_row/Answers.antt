@@ -1,0 +1,7 @@
+use Rattle.iv_text.proofs.WriteLemmas.{writes_then}
+use Rattle.iv_text.proofs.outcome.write_row.Goals as goal
+
+pub returns : goal.returns
+returns g c =
+    writes_then _ _ _ _ _ _ c.in_ok-write_all.ensures
+    (writes_then _ _ _ _ _ _ (rw c.values.ensures at c.in_ok-write_values.ensures) c.write_all-2.ensures)

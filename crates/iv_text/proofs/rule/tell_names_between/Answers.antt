@@ -1,0 +1,7 @@
+use Rattle.iv_text.proofs.SpelledLemmas.{spelled_then}
+use Rattle.iv_text.proofs.rule.tell_names_between.Goals as goal
+
+pub returns : goal.returns
+returns g c =
+    spelled_then _ _ _ _ _ _ _ c.in_ok-tell.ensures
+    (spelled_then _ _ _ _ _ _ _ c.in_ok-tell_names.ensures c.tell-2.ensures)

@@ -1,0 +1,25 @@
+use Rattle.std.proofs.Common.{◌≡◌, [], ◌∷◌, ◌∙◌, length, rules, arith, ap, subst, sym, ◌+◌, ◌≤◌}
+use Rattle.std.proofs.lemmas.Grind.{common_steps}
+use Rattle.iv_text.specs.Ways.{latest_from, nothing_yet}
+use Rattle.iv_text.proofs.WayLemmas.{depth_bounded, latest_step}
+use Rattle.iv_text.specs.declared.way.Latest.{Latest}
+use Rattle.iv_text.proofs.way.begun_at.Goals as goal
+
+pub loop-entry-preserved : goal.loop-entry-preserved
+loop-entry-preserved c =
+    let entry = c.in-Some.entry.now in
+    let others = c.in-Some.others.now in
+    let e : c.loop-entry.rest.now ≡ entry ∷ others = search rules in
+    record {
+      same = latest_step c.args.level c.loop-entry.depth c.depth_after-depth.result c.loop-entry.latest c.latest_after-latest.result
+          (latest_from c.args.level 0 nothing_yet c.args.entries.now) entry c.loop-entry.rest.now others e c.depth_after-depth.ensures
+          c.latest_after-latest.ensures c.loop-entry.invariant.same;
+      left = subst (λ d. d + length others ≤ length c.args.entries.now) (sym c.depth_after-depth.ensures)
+          (depth_bounded c.loop-entry.depth (length c.args.entries.now) entry c.loop-entry.rest.now others c.loop-entry.invariant.left e);
+    }
+
+pub returns : goal.returns
+returns c =
+    let e : c.loop-entry.rest.now ≡ [] = grind (arith, common_steps, c.in_default.ensures.cases) in
+    ap (λ (x : Latest). x.begun)
+    (sym (ap (latest_from c.args.level c.loop-entry.depth c.loop-entry.latest) e) ∙ c.loop-entry.invariant.same)

@@ -1,0 +1,13 @@
+pub mod Counts
+pub mod Sinks
+pub mod Devices
+pub mod Buffering
+pub mod Writing
+pub mod Spelled
+pub mod Lines
+pub mod Conditions
+pub mod Rules
+pub mod Ways
+pub mod WorkedConditions
+pub mod Causes
+pub mod Json
