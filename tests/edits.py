@@ -7,7 +7,8 @@ An edit has a line `file: src/..`, and pairs of lines `old: TEXT` and `new: TEXT
 A round has at most one edit of a function, and an edit outside of every function has a round of its own. A function
 that calls another edited one isn't judged in the same round: a line `round: N` puts an edit into that round or a later
 one. A round is made on a copy of the crate, over the work that a check kept, and one `rt check` has to name every
-edited function as refused. The last line is `N passed, N failed`.
+edited function as refused. An edit that is refused only because a proof names a call that is gone is told: it shows
+nothing, and wants other words. The last line is `N passed, N failed`.
 
 The file tests/edits/DIGESTS has a digest for each crate whose edits were all refused: of the edits, of the crate, and of
 what it names in the crates below, and that in turn: modules of proofs and definitions, and of code the files that define
@@ -59,6 +60,8 @@ EXPORT = re.compile(r"^pub use (\w+)::(?:(\w+)|\{([^}]*)\});", re.M)
 FIELDS = re.compile(r"^( *pub struct [^{};]*\{\n)(.*?)^( *\}\n)", re.M | re.S)
 DROPPED = re.compile(r"^ *#\[derive\(Drop\)\]\n|^impl\b(?:<[^{]*?>)? *Drop for [^{]*\{\n(?:(?!\}\n)(?! *(?:requires|ensures)).*\n)*\}\n", re.M)
 IMPLEMENTS = re.compile(r"^impl\b(?:<[^{]*?>)? *(?:[\w:<>, ]+ for )?(\w+)", re.M)
+# What a check says of a proof that names a call which isn't there, or that it can't read any more.
+UNREADABLE = re.compile(r"has no field|does not read `")
 
 
 def read(path):
@@ -340,6 +343,16 @@ def refused(crate, edit, output):
     return line.search(output) is not None
 
 
+def lost_a_name(edit, output):
+    """Whether the check refuses the edited function only because its proof names a call that the edit took away."""
+    if edit.function is None:
+        return False
+    *outer, last = [*edit.module(), *edit.function.split("::")]
+    place = re.escape("/".join(["./proofs", *outer, ""])) + r"\+?" + re.escape(last)
+    errors = re.findall(rf"^{place}/\w+\.antt:[\d:]* error: (.*)", output, re.M)
+    return bool(errors) and all(UNREADABLE.search(error) for error in errors)
+
+
 def tried(crate, copy, edits, words=("rt", "check", "--jobs", "1"), until=None):
     """The edits of a round that were not refused, what the check said, and the processor seconds that it took; nothing where it was
     stopped at that time."""
@@ -392,6 +405,9 @@ def report(crate, rounds, said, keep):
         print(f"{crate}: {len(one) - len(kept)} of {len(one)} refused in one check, {used / 60:.1f} processor minutes", flush=True)
         for edit in kept:
             print(f"FAILED: {crate}/{edit.name}: {edit.function} of {edit.file} was not refused")
+        for edit in one:
+            if lost_a_name(edit, output):
+                print(f"{crate}/{edit.name}: refused only because the proof of {edit.function} names a call that is gone")
         if keep:
             write(os.path.join(keep, f"{crate}-{number}.log"), output)
         elif kept:

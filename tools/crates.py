@@ -6,7 +6,7 @@
     crates.py build --unproved [--library] [--optimise]
                                              compiles the program or the library without proof, into out/unproved
     crates.py build --page [--unproved]      makes sqlkeep.html, sqlkeep.wasm and sqlkeep.mjs of the library, for browsers and for node
-    crates.py library                        makes out/ of what `rt ci` left: the program, and the library for C in the time of its own proof
+    crates.py library                        makes out/ over what `rt ci` left: the program, and the library for C in the time of its own proof
     crates.py check CRATE.. [--above] [--edits] [--jobs N]
                                              proves these crates, and with --above those that depend on them
 
@@ -19,6 +19,7 @@ import time
 
 sys.path.insert(0, os.path.dirname(os.path.realpath(__file__)))
 import builds
+import programs
 import wheel
 from libraries import library_over_gate, put_together
 from repository import LIBRARY, PROGRAM, ROOT, above, below, crates, folder, say
@@ -32,6 +33,15 @@ def run(crate, words):
     return ran.returncode, ran.stdout, time.monotonic() - began
 
 
+def put_program():
+    """Compiles the proved program into out/; whether it is there."""
+    if not programs.make():
+        say(f"{PROGRAM}: not built")
+        return False
+    builds.ready(programs.LINKED, os.path.join(ROOT, "out", PROGRAM), builds.commit())
+    return True
+
+
 def build(words):
     """Proves the program and builds it into out/; with --dist into dist/ too."""
     began = time.monotonic()
@@ -39,16 +49,10 @@ def build(words):
     if not prove(below([PROGRAM], named), named, os.cpu_count() or 1):
         return 1
     say(f"{PROGRAM}: proved; compiling it")
-    status, output, _ = run(PROGRAM, ["run"])
-    program = os.path.join(folder(PROGRAM), "out", PROGRAM)
-    if not os.path.exists(program):
-        say(output)
-        say(f"{PROGRAM}: not built")
-        return status or 1
-    os.makedirs(os.path.join(ROOT, "out"), exist_ok=True)
-    builds.ready(program, os.path.join(ROOT, "out", PROGRAM), builds.commit())
+    if not put_program():
+        return 1
     if "--dist" in words:
-        builds.hand_out(program)
+        builds.hand_out(programs.LINKED)
     say(f"{PROGRAM}: proved and built in {time.monotonic() - began:.0f} s")
     return 0
 
@@ -139,9 +143,7 @@ def main(words):
             return build_unproved(options)
         return build_library() if "--library" in words else build(options)
     if words == ["library"]:
-        os.makedirs(os.path.join(ROOT, "out"), exist_ok=True)
-        builds.ready(os.path.join(folder(PROGRAM), "out", PROGRAM), os.path.join(ROOT, "out", PROGRAM), builds.commit())
-        return library_over_gate() or wheel.main([os.path.join(ROOT, "out")])
+        return int(not put_program()) or library_over_gate() or wheel.main([os.path.join(ROOT, "out")])
     if words[:1] == ["check"]:
         return check(words[1:])
     say(__doc__)

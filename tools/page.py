@@ -23,6 +23,7 @@ sys.path.insert(0, str(Path(os.path.realpath(__file__)).parent.parent / "page"))
 import bundle
 import libraries
 import repository
+import toolchains
 import unproved
 from repository import ROOT, kit, say
 
@@ -31,10 +32,7 @@ LAYOUT = "e-m:e-p:64:64-p10:8:8-p20:8:8-i64:64-i128:128-n32:64-S128-ni:1:10:20"
 PARTS = Path(ROOT, "page", "wasm")
 STACK = 8 << 20
 FEATURES = ["memory64", "bulk-memory", "sign-ext", "mutable-globals", "nontrapping-float-to-int", "multivalue"]
-KEEPER = """#!/bin/bash
-[ -f module.bc ] && cp module.bc {sandbox}/module.bc
-exec -a "$0" {clang} "$@"
-"""
+KEEP = "[ -f module.bc ] && cp module.bc {sandbox}/module.bc\n"
 # The number of the section of tables, and the length of the head of a module.
 TABLES, HEAD = 4, 8
 
@@ -45,13 +43,8 @@ def keep_proved_module(sandbox):
     if rlibs is None:
         say("the crates below the library aren't proved here; ./build --library proves them")
         return False
-    (sandbox / "kit" / "bin").mkdir(parents=True)
-    for file in ("lib", "bin/ld.lld", "bin/llvm-ar", "bin/rattle-x64"):
-        (sandbox / "kit" / file).symlink_to(kit("toolchain", file))
-    keeper = sandbox / "kit" / "bin" / "clang"
-    keeper.write_text(KEEPER.format(sandbox=shlex.quote(str(sandbox)), clang=shlex.quote(kit("toolchain", "bin", "clang"))), "utf-8")
-    keeper.chmod(0o755)
-    words = [*libraries.words("build", crate, rlibs), "--crate-type", "staticlib", "--toolchain", str(sandbox / "kit"), "--backend", "llvm", "--jobs", "2", "-o", str(sandbox / "library.a")]
+    toolchain = toolchains.stand_in(sandbox / "kit", before=KEEP.format(sandbox=shlex.quote(str(sandbox))))
+    words = [*libraries.words("build", crate, rlibs), "--crate-type", "staticlib", "--toolchain", str(toolchain), "--backend", "llvm", "--jobs", "2", "-o", str(sandbox / "library.a")]
     done = subprocess.run(words, cwd=repository.folder(crate), stdin=subprocess.DEVNULL, stdout=subprocess.PIPE, stderr=subprocess.STDOUT, text=True, check=False)
     if not (sandbox / "module.bc").exists():
         say(done.stdout)
