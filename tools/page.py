@@ -21,15 +21,16 @@ sys.dont_write_bytecode = True
 sys.path.insert(0, os.path.dirname(os.path.realpath(__file__)))
 sys.path.insert(0, str(Path(os.path.realpath(__file__)).parent.parent / "page"))
 import bundle
+import front_end
 import libraries
+import parts
 import repository
 import toolchains
-import unproved
 from repository import ROOT, kit, say
 
 TARGET = "wasm64-unknown-unknown"
 LAYOUT = "e-m:e-p:64:64-p10:8:8-p20:8:8-i64:64-i128:128-n32:64-S128-ni:1:10:20"
-PARTS = Path(ROOT, "page", "wasm")
+WASM = Path(ROOT, "page", "wasm")
 STACK = 8 << 20
 FEATURES = ["memory64", "bulk-memory", "sign-ext", "mutable-globals", "nontrapping-float-to-int", "multivalue"]
 KEEP = "[ -f module.bc ] && cp module.bc {sandbox}/module.bc\n"
@@ -54,11 +55,11 @@ def keep_proved_module(sandbox):
 def keep_unproved_module(sandbox):
     """Puts the module of the sources into the folder, whose exports have their own names; whether it compiles."""
     try:
-        unproved.keep_module(repository.LIBRARY, sandbox)
-    except unproved.NotCompiled as why:
+        (sandbox / "module.ll").write_text(parts.whole(repository.LIBRARY, sandbox / "whole"), "utf-8")
+    except front_end.NotCompiled as why:
         say(str(why))
         return False
-    unproved.export(sandbox)
+    run(sandbox, kit("toolchain", "bin", "clang"), "--target=x86_64-unknown-linux-gnu", "-emit-llvm", "-Xclang", "-disable-llvm-passes", "-x", "ir", "-c", "module.ll", "-o", "module.bc")
     return True
 
 
@@ -101,9 +102,9 @@ def link(sandbox):
     exports = sorted(set(re.findall(r"^define (?!internal)[^@\n]*@(sqlkeep_\w+)\(", text, re.M)))
     shared = [clang, f"--target={TARGET}", "-mcpu=lime1", "-O3", "-c", "-Wno-override-module"]
     run(sandbox, *shared, "-x", "ir", "wasm.ll", "-o", "module.o")
-    run(sandbox, *shared, "-x", "ir", PARTS / "heap.ll", "-o", "glue.o")
+    run(sandbox, *shared, "-x", "ir", WASM / "heap.ll", "-o", "glue.o")
     for name in ("heap", "wide"):
-        run(sandbox, *shared, "-ffreestanding", "-fno-builtin", PARTS / f"{name}.c", "-o", f"{name}.o")
+        run(sandbox, *shared, "-ffreestanding", "-fno-builtin", WASM / f"{name}.c", "-o", f"{name}.o")
     words = [kit("toolchain", "bin", "ld.lld"), "-flavor", "wasm", "-mwasm64", "--no-entry", "--stack-first", "-z", f"stack-size={STACK}", "--gc-sections", "--strip-all"]
     run(sandbox, *words, *(f"--export={name}" for name in exports), "module.o", "glue.o", "heap.o", "wide.o", "-o", "wide.wasm")
     (sandbox / "wide.wasm").write_bytes(without_tables((sandbox / "wide.wasm").read_bytes()))
