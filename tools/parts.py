@@ -9,7 +9,7 @@ import os
 import re
 import subprocess
 from collections.abc import Callable
-from concurrent.futures import ThreadPoolExecutor
+from concurrent.futures import ThreadPoolExecutor, wait
 from dataclasses import dataclass
 from pathlib import Path
 
@@ -239,7 +239,7 @@ def with_exports(text):
     return re.sub(r"^define internal ([^@\n]*@sqlkeep_)", r"define \1", named, flags=re.M)
 
 
-def compiled(text, sandbox, optimised, side_by_side):
+def compiled(text, sandbox, optimised, threads):
     """Compiles a module that is there as text, with so many threads for its code; the object's path."""
     (sandbox / "joined.ll").write_text(text, "utf-8")
     to = sandbox / f"{sandbox.name}.o"
@@ -247,9 +247,19 @@ def compiled(text, sandbox, optimised, side_by_side):
         subprocess.run(clang("-O3", "-fPIC", *given(sandbox), "-x", "ir", "-c", "joined.ll", "-o", to), cwd=sandbox, stderr=subprocess.DEVNULL, check=True)
         return to
     subprocess.run(clang(*AS_IT_IS, "-c", "joined.ll", "-o", "joined.bc"), cwd=sandbox, check=True)
-    words = [f"--lto-newpm-passes={PASSES}", "--lto-CGO2", f"--lto-partitions={side_by_side}", "-mllvm", "-relocation-model=pic"]
+    words = [f"--lto-newpm-passes={PASSES}", "--lto-CGO2", f"--lto-partitions={threads}", "-mllvm", "-relocation-model=pic"]
     subprocess.run([*linker(sandbox), *words, "joined.bc", "-o", to], cwd=sandbox, check=True)
     return to
+
+
+def side_by_side(pool, function, *lists):
+    """What a function gives for each item. Of several that fail the one that says most is told, since the others may only have been ended."""
+    futures = [pool.submit(function, *items) for items in zip(*lists)]
+    wait(futures)
+    failures = [future.exception() for future in futures if future.exception()]
+    if failures:
+        raise max(failures, key=lambda failure: len(str(failure)))
+    return [future.result() for future in futures]
 
 
 def make(crate, sandbox, optimised):
@@ -257,12 +267,12 @@ def make(crate, sandbox, optimised):
     parts = parts_of(crate)
     threads = max(1, len(os.sched_getaffinity(0)) // len(parts))
     with ThreadPoolExecutor(len(parts)) as pool:
-        texts = list(pool.map(lambda part: module_of(part, sandbox / part.name), parts))
+        texts = side_by_side(pool, lambda part: module_of(part, sandbox / part.name), parts)
         names = handed_over(texts)
         texts = [joined(text, names, crate == PROGRAM and part is parts[0]) for part, text in zip(parts, texts)]
         if crate == LIBRARY:
             texts[0] = with_exports(texts[0])
-        return list(pool.map(lambda part, text: compiled(text, sandbox / part.name, optimised, threads), parts, texts))
+        return side_by_side(pool, lambda part, text: compiled(text, sandbox / part.name, optimised, threads), parts, texts)
 
 
 def whole(crate, sandbox):
