@@ -116,7 +116,7 @@ def parts_of(crate):
         return RUNNING.match(each) or READING.match(each) or each == "clap" or (each == "iv_program" and file in WORDS)
 
     def is_left_out_of_words(each, file):
-        return RUNNING.match(each) or READING.match(each) or TELLING.match(each)
+        return each.startswith("iv_") and each not in ("iv_program", "iv_machine")
 
     return [Part("telling", own, names, is_left_out), running(), reading(crate), Part("words", own, names, is_left_out_of_words)]
 
