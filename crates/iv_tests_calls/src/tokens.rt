@@ -1,6 +1,4 @@
 //! Tokens of one text that are read in another. The program reads tokens only in their own text.
-use crate::shown::{show, show_number};
-use crate::story::compare;
 use iv_lex::{Token, TokenKind, folded_text, tokens};
 use iv_parse_data::insert;
 use iv_parse_terms::{Cursor, Stop};
@@ -8,6 +6,10 @@ use iv_syntax::Insert;
 use std::alloc::Global;
 use std::panic::Expect;
 use std::process::Abort;
+
+fn show(rt: &impl Abort, words: &str, shown: &mut String) {
+    shown.push_str(words).expect(rt, "memory");
+}
 
 // The table of an INSERT, and whether it has columns and rows or defaults.
 fn show_insert(rt: &impl Abort, insert: &Insert, shown: &mut String) {
@@ -37,7 +39,7 @@ fn show_insert_in(
             show_insert(rt, &found, shown);
             drop(found);
             let left = tokens.len().saturating_sub(cursor.place());
-            show_number(rt, "", left as u64, "", shown);
+            write!(shown, "{left}").expect(rt, "memory");
         }
         Err(Stop::NoMemory) => show(rt, "no memory", shown),
         Err(_) => show(rt, "none", shown),
@@ -54,7 +56,7 @@ fn shown_elsewhere(rt: &impl Abort, alloc: Global, text: &str) -> String {
 
 fn finds(rt: &impl Abort, alloc: Global, text: &str, wanted: &str) {
     let shown = shown_elsewhere(rt, alloc, text);
-    compare(rt, text, shown.as_str(), wanted);
+    assert_eq!(rt; shown.as_str(), wanted, "{text}");
 }
 
 #[test]

@@ -1,5 +1,0 @@
-pub mod OneMark
-pub mod Pairs
-pub mod Suiting
-pub mod TakenBack
-pub mod Watched

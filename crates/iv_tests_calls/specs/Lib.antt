@@ -1,4 +1,0 @@
-pub mod Known
-pub mod Pairs
-pub mod Statements
-pub mod Types
