@@ -98,10 +98,10 @@ JOINED = 'define i32 @main() #0 {\n  call void @"low::put"(ptr null)\n  ret i32 
 HANDED_OUT = 'define weak_odr hidden void @"low::put"(ptr noundef %0) #0 {\n  ret void\n}\n'
 
 
-def refused(texts):
+def refused(modules):
     """Why these modules don't fit, or nothing."""
     try:
-        parts.handed_over(texts)
+        parts.handed_over(modules)
     except parts.NoPart as why:
         return str(why)
     return None
@@ -134,11 +134,12 @@ def texts():
     yield "bodies are left out by the layout", parts.without_bodies(SOURCE) == WITHOUT
     yield "a call has a value for each parameter", front_end.calls("low", SOURCE) == ["    let _ = low::put(any(), any());\n"]
     yield "a method is called by its type", front_end.calls("low::Pile", SOURCE, r"^    pub fn (\w+)\(") == ["    let _ = low::Pile::count(any());\n"]
-    names = parts.handed_over([CALLER, MAKER])
+    caller, maker = parts.Module(CALLER), parts.Module(MAKER)
+    names = parts.handed_over([caller, maker])
     yield "what is called and not made is handed over", names == {'@"low::put"'}
-    yield "the part that calls it declares it", parts.joined(CALLER, names, True) == JOINED
-    yield "the part that makes it hands it out", parts.joined(MAKER, names, False) == HANDED_OUT
-    yield "what no part makes is told", refused([CALLER, MARK]) == 'no part makes @"low::put"'
+    yield "the part that calls it declares it", caller.joined(names, True) == JOINED
+    yield "the part that makes it hands it out", maker.joined(names, False) == HANDED_OUT
+    yield "what no part makes is told", refused([caller, parts.Module(MARK)]) == 'no part makes @"low::put"'
     for crate in repository.crates():
         if parts.RUNNING.match(crate) or parts.READING.match(crate) or parts.TELLING.match(crate):
             yield f"every body of {crate} is found", bodies_left(crate) == []

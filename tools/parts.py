@@ -57,6 +57,32 @@ class NoPart(Exception):
     """A part calls a function that none makes; the text says which."""
 
 
+class Module:
+    """A module for LLVM as text, with its functions by their names."""
+
+    def __init__(self, text):
+        self.text = text
+        self.functions = {function[2]: function for function in FUNCTION.finditer(text)}
+        self.without_body = {name for name, function in self.functions.items() if LEFT_OUT in function[4] and LEFT_OUT not in name}
+
+    def joined(self, names, has_main):
+        """The text with these functions handed out, or declared if the module doesn't make them; and without `main`, if that isn't wanted."""
+        pieces, at = [], 0
+        for name in sorted(({"@main"} | names) & self.functions.keys(), key=lambda name: self.functions[name].start()):
+            function = self.functions[name]
+            pieces += [self.text[at : function.start()], self.changed(name, function, has_main)]
+            at = function.end()
+        return "".join([*pieces, self.text[at:]])
+
+    def changed(self, name, function, has_main):
+        """What stands for a function that parts share, or for `main`."""
+        if name == "@main":
+            return function[0] if has_main else ""
+        if name in self.without_body:
+            return f"declare hidden {function[1].removeprefix('internal ')}{name}{function[3]}\n"
+        return function[0].replace("define internal ", "define weak_odr hidden ", 1)
+
+
 @dataclass
 class Part:
     """A program, the libraries that it names, and the files of libraries whose functions come without bodies, by crate and name."""
@@ -188,7 +214,7 @@ def linker(sandbox):
 
 
 def module_of(part, sandbox):
-    """The module of a part as text, with only what its `main` reaches. If it doesn't compile, the other parts needn't end."""
+    """The module of a part, with only what its `main` reaches. If it doesn't compile, the other parts needn't end."""
     (sandbox / "src").mkdir(parents=True)
     for name, text in part.sources.items():
         (sandbox / "src" / name).write_text(text, "utf-8")
@@ -200,37 +226,16 @@ def module_of(part, sandbox):
         raise
     subprocess.run([*linker(sandbox), "--lto-newpm-passes=globaldce", "--lto-emit-llvm", "module.bc", "-o", "reached.bc"], cwd=sandbox, check=True)
     subprocess.run(clang(*AS_IT_IS, "-S", "reached.bc", "-o", "reached.ll"), cwd=sandbox, check=True)
-    return FILL.sub("", (sandbox / "reached.ll").read_text("utf-8"))
+    return Module(FILL.sub("", (sandbox / "reached.ll").read_text("utf-8")))
 
 
-def is_without_body(function):
-    """Whether a function of a module calls what isn't there, or is what it calls."""
-    return LEFT_OUT in function[4] or LEFT_OUT in function[2]
-
-
-def handed_over(texts):
+def handed_over(modules):
     """The names of the functions that some part calls and doesn't make. Each has to be in another part."""
-    functions = [function for text in texts for function in FUNCTION.finditer(text)]
-    wanted = {function[2] for function in functions if is_without_body(function) and LEFT_OUT not in function[2]}
-    missing = wanted - {function[2] for function in functions if not is_without_body(function)}
+    wanted = {name for module in modules for name in module.without_body}
+    missing = wanted - {name for module in modules for name in module.functions.keys() - module.without_body}
     if missing:
         raise NoPart("no part makes " + ", ".join(sorted(missing)))
     return wanted
-
-
-def joined(text, names, has_main):
-    """A part's module with these functions handed out, or declared if it doesn't make them; and without `main`, if that isn't wanted."""
-
-    def changed(function):
-        if function[2] == "@main" and not has_main:
-            return ""
-        if function[2] not in names:
-            return function[0]
-        if is_without_body(function):
-            return f"declare hidden {function[1].removeprefix('internal ')}{function[2]}{function[3]}\n"
-        return function[0].replace("define internal ", "define weak_odr hidden ", 1)
-
-    return FUNCTION.sub(changed, text)
 
 
 def with_exports(text):
@@ -265,11 +270,12 @@ def side_by_side(pool, function, *lists):
 def make(crate, sandbox, optimised):
     """Compiles the program or the library in parts, in a folder; the objects. The program has a `main`, the library its exports."""
     parts = parts_of(crate)
-    threads = max(1, len(os.sched_getaffinity(0)) // len(parts))
+    # A part that is small leaves its processor to the others.
+    threads = 1 + len(os.sched_getaffinity(0)) // len(parts)
     with ThreadPoolExecutor(len(parts)) as pool:
-        texts = side_by_side(pool, lambda part: module_of(part, sandbox / part.name), parts)
-        names = handed_over(texts)
-        texts = [joined(text, names, crate == PROGRAM and part is parts[0]) for part, text in zip(parts, texts)]
+        modules = side_by_side(pool, lambda part: module_of(part, sandbox / part.name), parts)
+        names = handed_over(modules)
+        texts = [module.joined(names, crate == PROGRAM and part is parts[0]) for part, module in zip(parts, modules)]
         if crate == LIBRARY:
             texts[0] = with_exports(texts[0])
         return side_by_side(pool, lambda part, text: compiled(text, sandbox / part.name, optimised, threads), parts, texts)
@@ -277,8 +283,8 @@ def make(crate, sandbox, optimised):
 
 def whole(crate, sandbox):
     """The module of the program or the library in one piece, as text."""
-    text = module_of(Part("whole", sources_of(crate), repository.listed(crate), lambda each, file: False), sandbox)
-    return with_exports(joined(text, set(), False)) if crate == LIBRARY else text
+    module = module_of(Part("whole", sources_of(crate), repository.listed(crate), lambda each, file: False), sandbox)
+    return with_exports(module.joined(set(), False)) if crate == LIBRARY else module.text
 
 
 def make_whole(crate, sandbox, optimised):
