@@ -245,7 +245,8 @@ def with_exports(text):
 
 
 def compiled(text, sandbox, optimised, threads):
-    """Compiles a module that is there as text, with so many threads for its code; the object's path."""
+    """Compiles a module that is there as text; the object's path. With several threads functions get names that other modules have too, so
+    that only a module in one piece may have them."""
     (sandbox / "joined.ll").write_text(text, "utf-8")
     to = sandbox / f"{sandbox.name}.o"
     if optimised:
@@ -270,15 +271,13 @@ def side_by_side(pool, function, *lists):
 def make(crate, sandbox, optimised):
     """Compiles the program or the library in parts, in a folder; the objects. The program has a `main`, the library its exports."""
     parts = parts_of(crate)
-    # A part that is small leaves its processor to the others.
-    threads = 1 + len(os.sched_getaffinity(0)) // len(parts)
     with ThreadPoolExecutor(len(parts)) as pool:
         modules = side_by_side(pool, lambda part: module_of(part, sandbox / part.name), parts)
         names = handed_over(modules)
         texts = [module.joined(names, crate == PROGRAM and part is parts[0]) for part, module in zip(parts, modules)]
         if crate == LIBRARY:
             texts[0] = with_exports(texts[0])
-        return side_by_side(pool, lambda part, text: compiled(text, sandbox / part.name, optimised, threads), parts, texts)
+        return side_by_side(pool, lambda part, text: compiled(text, sandbox / part.name, optimised, 1), parts, texts)
 
 
 def whole(crate, sandbox):
