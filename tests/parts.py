@@ -140,9 +140,8 @@ def texts():
     yield "the part that calls it declares it", caller.joined(names, True) == JOINED
     yield "the part that makes it hands it out", maker.joined(names, False) == HANDED_OUT
     yield "what no part makes is told", refused([caller, parts.Module(MARK)]) == 'no part makes @"low::put"'
-    for crate in repository.crates():
-        if parts.RUNNING.match(crate) or parts.READING.match(crate) or parts.TELLING.match(crate):
-            yield f"every body of {crate} is found", bodies_left(crate) == []
+    for crate in sorted(repository.below([repository.PROGRAM, repository.LIBRARY], repository.crates())):
+        yield f"every body of {crate} is found", bodies_left(crate) == []
     for library in parts.UNUSED:
         files = [file.relative_to(front_end.source(library)) for file in front_end.source(library).rglob("*.rt")]
         yield f"{library} has each kind of file that nothing uses", all(any(re.match(kind, file.as_posix()) for file in files) for kind in kinds(parts.UNUSED[library]))

@@ -24,10 +24,11 @@ PASSES = f"globaldce,cgscc(inline,function-attrs,function({SIMPLIFY})),globalopt
 TARGET = "x86_64-unknown-linux-gnu"
 AS_IT_IS = ("-emit-llvm", "-Xclang", "-disable-llvm-passes", "-x", "ir")
 
-# The crates that run statements, those that read, resolve and write them, and those that write what they did.
+# The crates that run statements, and those that read, resolve and write them.
 RUNNING = re.compile(r"iv_(exec_\w+|store|store_\w+|modes|state|session)$")
 READING = re.compile(r"iv_(parse|parse_\w+|template|write|restate|resol\w+)$")
-TELLING = re.compile(r"iv_(text|print|explain|script|dump)$")
+# All that is behind the calls of other parts, with the catalogue and expressions, whose functions those parts have too.
+BEHIND = re.compile(rf"({RUNNING.pattern})|({READING.pattern})|iv_(catalogue|expr|numbers)$")
 # The files of iv_program that speak of the command line. The kit's crate for it is clap.
 WORDS = ("command.rt", "reading.rt")
 # Files of the kit's libraries, of which no part calls a function.
@@ -136,10 +137,10 @@ def parts_of(crate):
     """The parts of the program or of the library, of which the first has the crate's own `main`."""
     own, names = sources_of(crate), repository.listed(crate)
     if crate == LIBRARY:
-        return [Part("calls", own, names, lambda each, file: RUNNING.match(each) or READING.match(each)), running(), reading(crate)]
+        return [Part("calls", own, names, lambda each, file: BEHIND.match(each)), running(), reading(crate)]
 
     def is_left_out(each, file):
-        return RUNNING.match(each) or READING.match(each) or each == "clap" or (each == "iv_program" and file in WORDS)
+        return BEHIND.match(each) or each == "clap" or (each == "iv_program" and file in WORDS)
 
     def is_left_out_of_words(each, file):
         return each.startswith("iv_") and each not in ("iv_program", "iv_machine")
