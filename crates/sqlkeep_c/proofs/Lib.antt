@@ -1,2 +1,4 @@
-pub mod Values
+pub mod Lent
+pub mod Refused
 pub mod RowValues
+pub mod Values

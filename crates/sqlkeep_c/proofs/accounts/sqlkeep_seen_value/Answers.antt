@@ -1,0 +1,7 @@
+use Rattle.sqlkeep_c.proofs.accounts.sqlkeep_seen_value.Goals as goal
+
+pub returns-clause-value : goal.returns-clause-value
+returns-clause-value c = rw (← c.in-Some.ensures.taken, ← c.deref.ensures, ← c.seen_value.ensures) c.write_value-status.ensures.value
+
+pub returns-clause-status : goal.returns-clause-status
+returns-clause-status c = rw (← c.in-Some.ensures.taken, ← c.deref.ensures, ← c.seen_value.ensures) c.write_value-status.ensures.status

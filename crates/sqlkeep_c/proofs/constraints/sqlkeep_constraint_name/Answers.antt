@@ -1,0 +1,7 @@
+use Rattle.sqlkeep_c.proofs.constraints.sqlkeep_constraint_name.Goals as goal
+
+pub returns-clause-bytes : goal.returns-clause-bytes
+returns-clause-bytes c = rw (← c.in-Some.ensures.taken, ← c.deref.ensures, ← c.constraint_name.ensures) c.copied_if_there-status.ensures.bytes
+
+pub returns-clause-status : goal.returns-clause-status
+returns-clause-status c = rw (← c.in-Some.ensures.taken, ← c.deref.ensures, ← c.constraint_name.ensures) c.copied_if_there-status.ensures.status

@@ -1,0 +1,7 @@
+use Rattle.sqlkeep_c.proofs.dumps.sqlkeep_dump_script.Goals as goal
+
+pub returns-clause-bytes : goal.returns-clause-bytes
+returns-clause-bytes c = rw (← c.in-Some.ensures.taken, ← c.deref.ensures, ← c.dump_script.ensures) c.copied_if_there-status.ensures.bytes
+
+pub returns-clause-status : goal.returns-clause-status
+returns-clause-status c = rw (← c.in-Some.ensures.taken, ← c.deref.ensures, ← c.dump_script.ensures) c.copied_if_there-status.ensures.status
