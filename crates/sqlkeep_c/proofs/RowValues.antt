@@ -1,11 +1,8 @@
 -- The machine values of a pointer to rows. Assumes `Logic`.
 use Rattle.std.proofs.Common.{◌≡◌, ℕ, List, [], ◌∷◌, ◌++◌, refl, subst}
-use mathlib.Core.Bool.{Bool, true, false, ◌&&◌}
-use lib.Dec.{T, lit<}
 use seplogic.Ra.Ura.{Ura}
-use mir.Syntax.{impl, tnil, dnil}
 use mir.Raw.{raw as bare}
-use mir.Val.{Val, vptr, vstruct, vcons, vnil, of_list, has_ty, WT}
+use mir.Val.{Val, vptr, vstruct, of_list}
 use base.Logic.{never, fst∗}
 use types.Logic.{Logic, sem}
 use types.Kit.{Item, Goal, Seq, Step, step, ‵, ◌$◌, move, drop, fsplit, fjoin, fpick, fpack, rewrite, feq_i, feq_l}
@@ -15,17 +12,13 @@ use denote.Memory.{lone}
 use denote.RawPtr.{Ptr, block_ptr, null_ptr, ptr_val, in_a_block}
 use denote.Steps.{nothing}
 use denote.Param.{layout}
-use denote.Param.Laws.{Laws}
 use denote.Struct.Struct.{within}
 use denote.Struct.Owning.{shape, to}
-use Rattle.core.specs.declared.alloc.Allocator.{Ghosts}
-use Rattle.core.proofs.alloc.Calls.{Al, handle_tells}
+use Rattle.core.proofs.alloc.Calls.{handle_tells}
 use Rattle.core.proofs.cell.Inside.{Good}
 use Rattle.std_alloc.specs.Box.Ownership.{box_owns}
-use Rattle.std_alloc.proofs.ResultValues.{and_tt}
-use Rattle.std.proofs.Common.{Option, Some, None, is_some}
+use Rattle.std.proofs.Common.{Option, Some, None}
 use Rattle.std.specs.contracts.alloc.Global as heap
-use Rattle.std.proofs.alloc.Global.TheLaws as heap_laws
 use Rattle.std.specs.contracts.impls.GlobalAllocator.TheImpl.{ghosts}
 use Rattle.sqlkeep_c.specs.BehindResult.{owns_rows}
 use Rattle.iv_connection.specs.contracts.results.QueryResult as opened

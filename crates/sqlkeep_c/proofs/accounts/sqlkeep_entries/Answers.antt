@@ -1,4 +1,4 @@
-use Rattle.std.proofs.Common.{Some, refl}
+use Rattle.std.proofs.Common.{refl}
 use Rattle.sqlkeep_c.proofs.accounts.sqlkeep_entries.Goals as goal
 
 pub returns-clause-count : goal.returns-clause-count

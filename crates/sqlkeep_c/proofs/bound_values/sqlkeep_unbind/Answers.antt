@@ -1,4 +1,4 @@
-use Rattle.std.proofs.Common.{Some, refl}
+use Rattle.std.proofs.Common.{refl}
 use Rattle.sqlkeep_c.proofs.bound_values.sqlkeep_unbind.Goals as goal
 
 pub returns-clause-values : goal.returns-clause-values

@@ -1,4 +1,4 @@
-use Rattle.std.proofs.Common.{Some, refl}
+use Rattle.std.proofs.Common.{refl}
 use Rattle.sqlkeep_c.proofs.results.sqlkeep_result_size.Goals as goal
 
 pub returns-clause-size : goal.returns-clause-size

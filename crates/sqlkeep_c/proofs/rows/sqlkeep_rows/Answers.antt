@@ -1,4 +1,4 @@
-use Rattle.std.proofs.Common.{Some, refl}
+use Rattle.std.proofs.Common.{refl}
 use Rattle.sqlkeep_c.proofs.rows.sqlkeep_rows.Goals as goal
 
 pub returns-clause-rows : goal.returns-clause-rows

@@ -1,4 +1,4 @@
-use Rattle.std.proofs.Common.{Some, refl}
+use Rattle.std.proofs.Common.{refl}
 use Rattle.sqlkeep_c.proofs.scripts.sqlkeep_transcript.Goals as goal
 
 pub returns-clause-bytes : goal.returns-clause-bytes

@@ -1,4 +1,4 @@
-use Rattle.std.proofs.Common.{Some, refl}
+use Rattle.std.proofs.Common.{refl}
 use Rattle.sqlkeep_c.proofs.sessions.sqlkeep_explain.Goals as goal
 
 pub returns-clause-asked : goal.returns-clause-asked

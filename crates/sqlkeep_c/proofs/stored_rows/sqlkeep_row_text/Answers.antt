@@ -4,10 +4,12 @@ use Rattle.sqlkeep_c.proofs.stored_rows.sqlkeep_row_text.Goals.{in-Some-stored_v
 
 pub returns-clause-bytes : goal.returns-clause-bytes
 returns-clause-bytes c = rw (← c.in-Some.ensures.taken, ← c.deref.ensures, ← c.stored_value.ensures) elim c.match-stored_value.branch [
-    | in-Some-stored_value w ↦ rw (w.in-Some-stored_value.is, ← w.text_of.ensures, w.count-is, w.buffer-is) w.copied.ensures
-    | in-None w ↦ rw w.in-None.is tt ]
+  | in-Some-stored_value w ↦ rw (w.in-Some-stored_value.is, ← w.text_of.ensures, w.count-is, w.buffer-is) w.copied.ensures
+  | in-None w ↦ rw w.in-None.is tt
+]
 
 pub returns-clause-status : goal.returns-clause-status
 returns-clause-status c = rw (← c.in-Some.ensures.taken, ← c.deref.ensures, ← c.stored_value.ensures) elim c.match-stored_value.branch [
-    | in-Some-stored_value w ↦ rw (w.in-Some-stored_value.is, w.status-is) refl
-    | in-None w ↦ rw (w.in-None.is, w.status-is) refl ]
+  | in-Some-stored_value w ↦ rw (w.in-Some-stored_value.is, w.status-is) refl
+  | in-None w ↦ rw (w.in-None.is, w.status-is) refl
+]

@@ -1,4 +1,4 @@
-use Rattle.std.proofs.Common.{Some, refl}
+use Rattle.std.proofs.Common.{refl}
 use Rattle.sqlkeep_c.proofs.tables.sqlkeep_catalogue.Goals as goal
 
 pub returns-clause-counts : goal.returns-clause-counts

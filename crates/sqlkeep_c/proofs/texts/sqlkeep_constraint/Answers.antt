@@ -1,4 +1,3 @@
-use Rattle.std.proofs.Common.{Some}
 use Rattle.iv_shown.specs.Copying.{Copies}
 use Rattle.iv_shown.specs.Texts.{refusal_constraint}
 use Rattle.sqlkeep_c.proofs.Refused.{by_refusal, refused_status}

@@ -1,4 +1,4 @@
-use Rattle.std.proofs.Common.{Some, refl}
+use Rattle.std.proofs.Common.{refl}
 use Rattle.sqlkeep_c.proofs.transactions.sqlkeep_commit.Goals as goal
 
 pub returns-clause-committed : goal.returns-clause-committed

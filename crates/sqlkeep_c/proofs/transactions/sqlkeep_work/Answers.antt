@@ -1,4 +1,4 @@
-use Rattle.std.proofs.Common.{Some, refl}
+use Rattle.std.proofs.Common.{refl}
 use Rattle.sqlkeep_c.proofs.transactions.sqlkeep_work.Goals as goal
 
 pub returns-clause-work : goal.returns-clause-work
