@@ -5,9 +5,9 @@
 
 An edit has a line `file: src/..`, and pairs of lines `old: TEXT` and `new: TEXT`; each old text occurs once in its file.
 A round has at most one edit of a function, and an edit outside of every function has a round of its own. A function
-that calls another edited one isn't judged in the same round: a line `round: N` puts an edit into that round or a later
-one. A round is made on a copy of the crate, over the work that a check kept, and one `rt check` has to name every
-edited function as refused. An edit that is refused only because a proof names a call that is gone is told: it shows
+that calls another edited one can't be judged in the same round: its edit is tried again in a further round, and a line
+`round: N`, which puts an edit into that round or a later one, saves this. A round is made on a copy of the crate, over
+the work that a check kept, and one `rt check` has to name every edited function as refused. An edit that is refused only because a proof names a call that is gone is told: it shows
 nothing, and wants other words. The last line is `N passed, N failed`.
 
 The file tests/edits/DIGESTS has a digest for each crate whose edits were all refused: of the edits, of the crate, and of
@@ -330,17 +330,26 @@ def make(crate, copy, edits):
     return files
 
 
-def refused(crate, edit, output):
-    """Whether the check's output has the edited function among those that it refuses for what they do."""
-    words = "(not proved|no proof: expected|no proof: in )"
+def is_told(crate, edit, words, output):
+    """Whether the check's output has a line of the edited function that goes on with these words; outside of every function a line of
+    anything."""
     if edit.function is None:
         return re.search(rf"^(fn|struct|enum|impl) .*: {words}", output, re.M) is not None
     # A method is reported with the module of its type.
     module = [] if "::" in edit.function else edit.module()
     path = "::".join(map(re.escape, [crate, *module]))
     name = r"\w*::".join(re.escape(part) for part in edit.function.split("::"))
-    line = re.compile(rf"^fn {path}::(?:\w+::)*{name}: {words}", re.M)
-    return line.search(output) is not None
+    return re.search(rf"^fn {path}::(?:\w+::)*{name}: {words}", output, re.M) is not None
+
+
+def refused(crate, edit, output):
+    """Whether the check's output has the edited function among those that it refuses for what they do."""
+    return is_told(crate, edit, "(not proved|no proof: expected|no proof: in )", output)
+
+
+def waits(crate, edit, output):
+    """Whether the check tells nothing of the edited function, since it calls one that isn't proved."""
+    return is_told(crate, edit, "no proof: (it calls|the borrow checker's part)", output)
 
 
 def lost_a_name(edit, output):
@@ -367,6 +376,17 @@ def tried(crate, copy, edits, words=("rt", "check", "--jobs", "1"), until=None):
     return [edit for edit in edits if not refused(crate, edit, output)], output, used
 
 
+def put_off(crate, rounds, number, said):
+    """Puts the edits of a round that could not be judged beside others into a further round. Without others they stay: they have failed."""
+    kept, output, used = said
+    off = [edit for edit in kept if waits(crate, edit, output)]
+    if not off or len(off) == len(rounds[number]):
+        return said
+    rounds[number] = [edit for edit in rounds[number] if edit not in off]
+    rounds.append(off)
+    return [edit for edit in kept if edit not in off], output, used
+
+
 def tried_apart(crate, edits, sandbox):
     """The same for a round in a sandbox of its own."""
     said = tried(crate, copied(crate, sandbox), edits)
@@ -384,13 +404,14 @@ def tried_in_turn(crate, rounds, sandbox, until):
     shutil.copytree(os.path.join(ROOT, "crates", crate), copy, ignore=shutil.ignore_patterns("out"))
     os.makedirs(os.path.join(copy, "out", "incremental"))
     words = [*libraries.words("check", crate, rlibs), "--jobs", "1"]
+    # Rounds may be added on the way.
     for number, edits in enumerate(rounds):
         paths = {edit.path() for edit in edits}
         only = [] if None in paths else [word for path in sorted(paths) for word in ("--only", path)]
         one = tried(crate, copy, edits, [*words, *only], until) if time.monotonic() < until else None
         if one is None:
             break
-        said[number] = one
+        said[number] = put_off(crate, rounds, number, one)
     shutil.rmtree(copy)
     return said
 
@@ -446,12 +467,22 @@ def try_all(rounds, jobs, keep):
     if not sandboxes.prove(repository.below(rounds, repository.crates()), repository.crates(), jobs):
         return 0, 1
     with tempfile.TemporaryDirectory(prefix="edits-", dir=sandboxes.place()) as sandbox, ThreadPoolExecutor(jobs) as pool:
+        begun, said = {}, {crate: {} for crate in rounds}
+
+        def begin(crate, number):
+            begun[pool.submit(tried_apart, crate, rounds[crate][number], os.path.join(sandbox, f"{crate}-{number}"))] = crate, number
+
         longest_first = sorted(rounds, key=lambda crate: -sum(map(len, rounds[crate])))
-        begun = {pool.submit(tried_apart, crate, one, os.path.join(sandbox, f"{crate}-{number}")): (crate, number) for crate in longest_first for number, one in enumerate(rounds[crate])}
-        said = {crate: {} for crate in rounds}
-        for done in as_completed(begun):
-            crate, number = begun[done]
-            said[crate][number] = done.result()
+        for crate in longest_first:
+            for number in range(len(rounds[crate])):
+                begin(crate, number)
+        while begun:
+            done = next(as_completed(begun))
+            crate, number = begun.pop(done)
+            there = len(rounds[crate])
+            said[crate][number] = put_off(crate, rounds[crate], number, done.result())
+            for further in range(there, len(rounds[crate])):
+                begin(crate, further)
             if len(said[crate]) == len(rounds[crate]):
                 refused_now, kept_now = report(crate, rounds[crate], said[crate], keep)
                 passed, failed = passed + refused_now, failed + kept_now
