@@ -5,10 +5,11 @@
 
 An edit has a line `file: src/..`, and pairs of lines `old: TEXT` and `new: TEXT`; each old text occurs once in its file.
 A round has at most one edit of a function, and an edit outside of every function has a round of its own. A function
-that calls another edited one can't be judged in the same round: its edit is tried again in a further round, and a line
+that calls another edited one can't be judged in the same round: its edit is tried again in a further round. A line
 `round: N`, which puts an edit into that round or a later one, saves this. A round is made on a copy of the crate, over
-the work that a check kept, and one `rt check` has to name every edited function as refused. An edit that is refused only because a proof names a call that is gone is told: it shows
-nothing, and wants other words. The last line is `N passed, N failed`.
+the work that a check kept, and one `rt check` has to name every edited function as refused. An edit that is refused
+only because a proof names a call that is gone is told: it shows nothing, and wants other words. The last line is
+`N passed, N failed`.
 
 The file tests/edits/DIGESTS has a digest for each crate whose edits were all refused: of the edits, of the crate, and of
 what it names in the crates below, and that in turn: modules of proofs and definitions, and of code the files that define
