@@ -4,12 +4,11 @@
   tests/edits.py [CRATE..] [--all] [--jobs N] [--keep FOLDER] [--minutes N]
 
 An edit has a line `file: src/..`, and pairs of lines `old: TEXT` and `new: TEXT`; each old text occurs once in its file.
-A round has at most one edit of a function, and an edit outside of every function has a round of its own. A function
-that calls another edited one can't be judged in the same round: its edit is tried again in a further round. A line
-`round: N`, which puts an edit into that round or a later one, saves this. A round is made on a copy of the crate, over
-the work that a check kept, and one `rt check` has to name every edited function as refused. An edit that is refused
-only because a proof names a call that is gone is told: it shows nothing, and wants other words. The last line is
-`N passed, N failed`.
+A round has at most one edit of a function, and an edit outside of every function has a round of its own. A round is made on
+a copy of the crate, over the work that a check kept. One check, which goes on past what is refused, has to name every edited
+function, and no other, as refused for what it does. Where it names one only for what that calls, its edit is tried again in a
+further round. An edit that is refused only because a proof names a call that is gone is told: it shows nothing, and wants
+other words. The last line is `N passed, N failed`.
 
 The file tests/edits/DIGESTS has a digest for each crate whose edits were all refused: of the edits, of the crate, and of
 what it names in the crates below, and that in turn: modules of proofs and definitions, and of code the files that define
@@ -21,7 +20,8 @@ the same the edits aren't tried again, except with --all; where they are tried a
 crate that is tried is proved first where its kept work is missing or old.
 
 With --minutes the edits are tried over the libraries that `rt ci` left, those of the crates that changed last first, and for so
-many minutes by the clock at most. What wasn't tried then is counted as skipped, and the last line is `N passed, N failed, N skipped`."""
+many minutes by the clock at most. What wasn't tried then is counted as skipped, and the last line is `N passed, N failed, N skipped`.
+A round has few edits then, so that some are judged before the time is over; all rounds together take longer."""
 import argparse
 import functools
 import hashlib
@@ -60,9 +60,20 @@ EXPORT = re.compile(r"^pub use (\w+)::(?:(\w+)|\{([^}]*)\});", re.M)
 # A struct with its fields, of which another crate sees the public ones; and what says, without a clause, that a type may be dropped.
 FIELDS = re.compile(r"^( *pub struct [^{};]*\{\n)(.*?)^( *\}\n)", re.M | re.S)
 DROPPED = re.compile(r"^ *#\[derive\(Drop\)\]\n|^impl\b(?:<[^{]*?>)? *Drop for [^{]*\{\n(?:(?!\}\n)(?! *(?:requires|ensures)).*\n)*\}\n", re.M)
-IMPLEMENTS = re.compile(r"^impl\b(?:<[^{]*?>)? *(?:[\w:<>, ]+ for )?(\w+)", re.M)
+# The head of an `impl`: its parameters, its trait and its type; and the words of these that the check calls it by.
+IMPLEMENTS = re.compile(r"^impl\b(<[^{]*?>(?= ))? *(?:([^{]*?) for )?([^{]*?)\s*(?:where\b[^{]*)?\{", re.M)
+SIGNS = re.compile(r"(?<!')\b\w+\b(?!::)")
+# What a check says last where it came to its end, of a function that it doesn't take for proved, and of a goal of some function of a file.
+ENDED = re.compile(r"^(logic=not-proved|only=\d+ holes=\d+)", re.M)
+REFUSED = re.compile(r"^fn (\S+): ((?:not proved|no proof).*)", re.M)
+EXPECTED = re.compile(r"no proof: expected \w+ in \./proofs/(\S+)/\w+\.antt")
+CYCLE = re.compile(r"^ *#\[cycle\((\w+)\)\]\n", re.M)
+OPEN = re.compile(r"(?:prove `|, `)([\w-]+)`")
+NOTE = re.compile(r"^note: src/(\S+)\.rt:[\d:]+ .*\(`([\w-]+)`\)", re.M)
+# How many edits a round has at most where time is short.
+FEW = 12
 # What a check says of a proof that names a call which isn't there, or that it can't read any more.
-UNREADABLE = re.compile(r"has no field|does not read `")
+UNREADABLE = re.compile(r"has no field|does not read `|has no `[^`]*` that can be named")
 
 
 def read(path):
@@ -76,7 +87,8 @@ def write(path, text):
 
 
 class Edit:
-    """An edit: its name, its file and the spans of that file that get new texts."""
+    """An edit: its name, its file, the spans of that file that get new texts, and the functions that they are in, of which the first has to be
+    refused: a method after its type and its trait, and none outside of every function."""
 
     def __init__(self, crate, path):
         self.name = os.path.basename(path)[: -len(".edit")]
@@ -90,40 +102,48 @@ class Edit:
                 raise SystemExit(f"{crate}/{self.name}: its old text occurs {source.count(old)} times in {self.file}: {old}")
             start = source.index(old)
             self.spans.append((start, start + len(old), new))
-        self.function = enclosing(source, self.spans[0][0]) if self.file.endswith(".rt") else None
-        self.round = int(next((text for key, _, text in lines if key == "round"), "1"))
-
-    def path(self):
-        """What a check of this edit alone is asked for: the function; the module for a method, which is reported under its type or its trait;
-        and nothing, which is the whole crate, outside of every function."""
-        if self.function is None or not self.module():
-            return None
-        return "::".join(self.module() + ([] if "::" in self.function else [self.function]))
+        self.functions = [enclosing(source, start) if self.file.endswith(".rt") else None for start, _, _ in self.spans]
+        self.function = self.functions[0]
 
     def module(self):
         """The path of the file's module."""
         parts = self.file[len("src/") : -len(".rt")].split("/")
         return [part for part in parts if part not in ("lib", "main")]
 
+    def path(self):
+        """How a check is asked for the function: a method without its module, since its type may be of another one."""
+        return self.function if "::" in self.function else "::".join([*self.module(), self.function])
+
+    def is_of(self, crate, path):
+        """Whether a check calls the function by this path."""
+        between = r"(?:\w+::)*" if "::" in self.function else ""
+        return re.fullmatch(f"{crate}::{between}{re.escape(self.path())}", path) is not None
+
+    def is_beside(self, other):
+        """Whether the two can be in one round: both are of functions, and of no function both."""
+        return bool(self.function and other.function) and (self.file != other.file or not set(self.functions) & set(other.functions))
+
 
 def enclosing(source, place):
-    """The function that a place of a file is in, after its type where it is a method; none before the first."""
+    """The function that a place of a file is in, after its type and its trait where it is a method; none before the first."""
     found = [match for match in FUNCTION.finditer(source) if match.start() <= place]
     if not found:
         return None
     function = found[-1]
-    if not function[1]:
+    blocks = [match for match in IMPLEMENTS.finditer(source) if match.start() <= function.start()] if function[1] else []
+    if not blocks:
         return function[2]
-    blocks = [match for match in IMPLEMENTS.finditer(source) if match.start() <= function.start()]
-    return f"{blocks[-1][1]}::{function[2]}" if blocks else function[2]
+    generics, of_trait, of_type = (part or "" for part in blocks[-1].groups())
+    parameters = re.findall(r"[<,] *(\w+)", generics)
+    return "".join(sign for sign in SIGNS.findall(of_type) + SIGNS.findall(of_trait) if sign not in parameters) + f"::{function[2]}"
 
 
-def rounds_of(edits):
-    """The edits in rounds, each with at most one edit of a function."""
+def rounds_of(edits, most=None):
+    """The edits in rounds of so many at most, each with at most one edit of a function."""
     rounds = []
-    for edit in sorted(edits, key=lambda edit: edit.round):
-        for one in rounds[edit.round - 1 :]:
-            if edit.function and all(other.function and (edit.file, edit.function) != (other.file, other.function) for other in one):
+    for edit in edits:
+        for one in rounds:
+            if len(one) != most and all(map(edit.is_beside, one)):
                 one.append(edit)
                 break
         else:
@@ -331,26 +351,59 @@ def make(crate, copy, edits):
     return files
 
 
-def is_told(crate, edit, words, output):
-    """Whether the check's output has a line of the edited function that goes on with these words; outside of every function a line of
-    anything."""
-    if edit.function is None:
-        return re.search(rf"^(fn|struct|enum|impl) .*: {words}", output, re.M) is not None
-    # A method is reported with the module of its type.
-    module = [] if "::" in edit.function else edit.module()
-    path = "::".join(map(re.escape, [crate, *module]))
-    name = r"\w*::".join(re.escape(part) for part in edit.function.split("::"))
-    return re.search(rf"^fn {path}::(?:\w+::)*{name}: {words}", output, re.M) is not None
+@functools.lru_cache(maxsize=None)
+def cycles(crate):
+    """The names of the crate's cycles of calls. The functions of a cycle have one proof, in the folder of its name behind a plus, where the
+    name of a goal begins with that of its function. A function that calls itself alone has such a folder too, with names as elsewhere."""
+    sources = (read(path) for path in files_in(os.path.join(ROOT, "crates", crate, "src")))
+    return frozenset(name for source in sources for name in CYCLE.findall(source))
+
+
+def is_its_own(path, said, notes):
+    """Whether a check refuses a function for what it does, and not only for what it calls or stands on. What a call requires is a goal of the
+    caller."""
+    crate, *outer, last = path.split("::")
+    folders = [last] if last in cycles(crate) else [last, f"+{last}"]
+    expected = EXPECTED.match(said)
+    if expected and expected[1] in ["/".join([*outer, folder]) for folder in folders]:
+        return True
+    module = re.escape(".".join([crate, "proofs", *outer, ""]))
+    if re.search(rf"`Rattle\.{module}(?:(?:{'|'.join(map(re.escape, folders))})\.\w+\.|\+\w+\.\w+\.{last}-)", said):
+        return True
+    if not re.search(rf"(?:{module}|/proofs/{'/'.join([*outer, ''])})\+", said):
+        return False
+    goals = OPEN.findall(said) + [goal for file, goal in notes if file in ("/".join(outer), "/".join(outer[:-1]))]
+    return any(re.match(rf"{last}-(?!(?:\d+-)?requires)", goal) for goal in goals)
+
+
+def refusals(output):
+    """The functions that the check refuses for what they do, by their paths, with what it says of them."""
+    notes = NOTE.findall(output)
+    return {path: said for path, said in REFUSED.findall(output) if is_its_own(path, said, notes)}
 
 
 def refused(crate, edit, output):
-    """Whether the check's output has the edited function among those that it refuses for what they do."""
-    return is_told(crate, edit, "(not proved|no proof: expected|no proof: in )", output)
+    """Whether the check refuses the edited function for what it does; outside of every function anything."""
+    if edit.function is None:
+        return re.search(r"^(fn|struct|enum|impl) .*: (not proved|no proof: expected|no proof: in )", output, re.M) is not None
+    return any(edit.is_of(crate, path) for path in refusals(output))
 
 
 def waits(crate, edit, output):
-    """Whether the check tells nothing of the edited function, since it calls one that isn't proved."""
-    return is_told(crate, edit, "no proof: (it calls|the borrow checker's part)", output)
+    """Whether the check doesn't take the edited function for proved, but only for what it calls."""
+    return edit.function is not None and any(edit.is_of(crate, path) for path, _ in REFUSED.findall(output)) and not refused(crate, edit, output)
+
+
+def bystanders(crate, edits, output):
+    """The functions that the check refuses for what they do, though no edit of the round is of them."""
+    if any(edit.function is None for edit in edits):
+        return []
+    others = {function for edit in edits for function in edit.functions[1:] if function}
+    return [
+        path
+        for path in refusals(output)
+        if not any(edit.is_of(crate, path) for edit in edits) and not any(path.endswith("::" + function) for function in others)
+    ]
 
 
 def lost_a_name(edit, output):
@@ -358,21 +411,29 @@ def lost_a_name(edit, output):
     if edit.function is None:
         return False
     *outer, last = [*edit.module(), *edit.function.split("::")]
-    place = re.escape("/".join(["./proofs", *outer, ""])) + r"\+?" + re.escape(last)
-    errors = re.findall(rf"^{place}/\w+\.antt:[\d:]* error: (.*)", output, re.M)
+    folder = re.escape("/".join(["./proofs", *outer, ""]))
+    errors = re.findall(rf"^{folder}(?:\+?{last}/\w+\.antt:[\d:]* error: |\+\w+/\w+\.antt:[\d:]* error: (?=`{last}-))(.*)", output, re.M)
     return bool(errors) and all(UNREADABLE.search(error) for error in errors)
+
+
+def asked(edits):
+    """The words by which a check is asked for the edited functions and those that they call, and goes on past what it refuses. An edit
+    outside of every function concerns the whole crate."""
+    if any(edit.function is None for edit in edits):
+        return []
+    return ["--allow-holes", *(word for path in sorted({edit.path() for edit in edits}) for word in ("--only", path))]
 
 
 def tried(crate, copy, edits, words=("rt", "check", "--jobs", "1"), until=None):
     """The edits of a round that were not refused, what the check said, and the processor seconds that it took; nothing where it was
     stopped at that time."""
     files = make(crate, copy, edits)
-    status, output, used = sandboxes.timed(words, copy, until)
+    status, output, used = sandboxes.timed([*words, *asked(edits)], copy, until)
     for file in files:
         shutil.copy2(os.path.join(ROOT, "crates", crate, file), os.path.join(copy, file))
     if until is not None and time.monotonic() >= until:
         return None
-    if status != 1 or not re.search(r"^(logic=not-proved|only=\d+ proved=\d+)", output, re.M):
+    if status != 1 or not ENDED.search(output):
         return edits, output, used
     return [edit for edit in edits if not refused(crate, edit, output)], output, used
 
@@ -396,8 +457,8 @@ def tried_apart(crate, edits, sandbox):
 
 
 def tried_in_turn(crate, rounds, sandbox, until):
-    """What each round of a crate came to over the libraries that `rt ci` left, as far as it was tried until that time. A check is asked
-    for the edited functions and those that they call; what one of them proved serves the next."""
+    """What each round of a crate came to over the libraries that `rt ci` left, as far as it was tried until that time. What a check proved
+    serves the next."""
     said, rlibs = {}, libraries.left_by_gate(crate)
     if rlibs is None:
         return said
@@ -407,9 +468,7 @@ def tried_in_turn(crate, rounds, sandbox, until):
     words = [*libraries.words("check", crate, rlibs), "--jobs", "1"]
     # Rounds may be added on the way.
     for number, edits in enumerate(rounds):
-        paths = {edit.path() for edit in edits}
-        only = [] if None in paths else [word for path in sorted(paths) for word in ("--only", path)]
-        one = tried(crate, copy, edits, [*words, *only], until) if time.monotonic() < until else None
+        one = tried(crate, copy, edits, words, until) if time.monotonic() < until else None
         if one is None:
             break
         said[number] = put_off(crate, rounds, number, one)
@@ -427,6 +486,9 @@ def report(crate, rounds, said, keep):
         print(f"{crate}: {len(one) - len(kept)} of {len(one)} refused in one check, {used / 60:.1f} processor minutes", flush=True)
         for edit in kept:
             print(f"FAILED: {crate}/{edit.name}: {edit.function} of {edit.file} was not refused")
+        for path in bystanders(crate, one, output):
+            print(f"FAILED: {path} was refused too, though no edit is of it")
+            failed += 1
         for edit in one:
             if lost_a_name(edit, output):
                 print(f"{crate}/{edit.name}: refused only because the proof of {edit.function} names a call that is gone")
@@ -448,7 +510,7 @@ def changed_last():
     return {path.removeprefix("tests/edits/").removeprefix("crates/").split("/")[0] for path in paths}
 
 
-def stale(crates, known):
+def stale(crates, known, most):
     """The rounds of each crate whose digest isn't known, and how many edits the others have."""
     rounds, refused_before = {}, 0
     for crate in crates:
@@ -457,7 +519,7 @@ def stale(crates, known):
             print(f"{crate}: {len(names)} edits were refused over these sources already", flush=True)
             refused_before += len(names)
         else:
-            rounds[crate] = rounds_of([Edit(crate, os.path.join(HERE, "edits", crate, name)) for name in names])
+            rounds[crate] = rounds_of([Edit(crate, os.path.join(HERE, "edits", crate, name)) for name in names], most)
     return rounds, refused_before
 
 
@@ -473,8 +535,7 @@ def try_all(rounds, jobs, keep):
         def begin(crate, number):
             begun[pool.submit(tried_apart, crate, rounds[crate][number], os.path.join(sandbox, f"{crate}-{number}"))] = crate, number
 
-        longest_first = sorted(rounds, key=lambda crate: -sum(map(len, rounds[crate])))
-        for crate in longest_first:
+        for crate in sorted(rounds, key=lambda crate: -sum(map(len, rounds[crate]))):
             for number in range(len(rounds[crate])):
                 begin(crate, number)
         while begun:
@@ -522,9 +583,10 @@ def main():
     folder = os.path.join(HERE, "edits")
     crates = words.crates or sorted(name for name in os.listdir(folder) if os.path.isdir(os.path.join(folder, name)))
     known = {} if words.all else digests()
-    rounds, passed = stale(crates, known)
+    in_time = words.minutes is not None and not words.all
+    rounds, passed = stale(crates, known, FEW if in_time else None)
     failed = skipped = 0
-    if rounds and words.minutes is not None and not words.all:
+    if rounds and in_time:
         refused_now, failed, skipped = try_some(rounds, words.jobs, words.keep, words.minutes)
     elif rounds:
         refused_now, failed = try_all(rounds, words.jobs, words.keep)
