@@ -67,7 +67,7 @@ SIGNS = re.compile(r"(?<!')\b\w+\b(?!::)")
 ENDED = re.compile(r"^(logic=not-proved|only=\d+ holes=\d+)", re.M)
 REFUSED = re.compile(r"^fn (\S+): ((?:not proved|no proof).*)", re.M)
 EXPECTED = re.compile(r"no proof: expected \w+ in \./proofs/(\S+)/\w+\.antt")
-CYCLE = re.compile(r"^ *#\[cycle\((\w+)\)\]\n", re.M)
+CYCLE = re.compile(r"^ *#\[cycle\(\w+\)\]\n(?:(?! *(?:pub\b.*)?fn ).*\n)*.*?fn (\w+)", re.M)
 OPEN = re.compile(r"(?:prove `|, `)([\w-]+)`")
 NOTE = re.compile(r"^note: src/(\S+)\.rt:[\d:]+ .*\(`([\w-]+)`\)", re.M)
 # How many edits a round has at most where time is short.
@@ -138,17 +138,17 @@ def enclosing(source, place):
     return "".join(sign for sign in SIGNS.findall(of_type) + SIGNS.findall(of_trait) if sign not in parameters) + f"::{function[2]}"
 
 
-def rounds_of(edits, most=None):
-    """The edits in rounds of so many at most, each with at most one edit of a function."""
-    rounds = []
+def rounds_of(edits, most=None, rounds=()):
+    """The edits in rounds of so many at most, each with at most one edit of a function, after those that are in rounds already."""
+    made = list(map(list, rounds))
     for edit in edits:
-        for one in rounds:
+        for one in made:
             if len(one) != most and all(map(edit.is_beside, one)):
                 one.append(edit)
                 break
         else:
-            rounds.append([edit])
-    return rounds
+            made.append([edit])
+    return made
 
 
 def below(crate):
@@ -352,28 +352,26 @@ def make(crate, copy, edits):
 
 
 @functools.lru_cache(maxsize=None)
-def cycles(crate):
-    """The names of the crate's cycles of calls. The functions of a cycle have one proof, in the folder of its name behind a plus, where the
-    name of a goal begins with that of its function. A function that calls itself alone has such a folder too, with names as elsewhere."""
+def in_cycles(crate):
+    """The functions of a crate that are in cycles of calls. Those of a cycle have one proof, in a folder of its name behind a plus, where the
+    name of a goal begins with that of its function."""
     sources = (read(path) for path in files_in(os.path.join(ROOT, "crates", crate, "src")))
     return frozenset(name for source in sources for name in CYCLE.findall(source))
 
 
 def is_its_own(path, said, notes):
-    """Whether a check refuses a function for what it does, and not only for what it calls or stands on. What a call requires is a goal of the
-    caller."""
+    """Whether a check refuses a function for what it does, and not only for what it calls or stands on. A function that calls itself alone
+    has its proof in a folder behind a plus too. What a call requires is a goal of the caller."""
     crate, *outer, last = path.split("::")
-    folders = [last] if last in cycles(crate) else [last, f"+{last}"]
-    expected = EXPECTED.match(said)
-    if expected and expected[1] in ["/".join([*outer, folder]) for folder in folders]:
-        return True
     module = re.escape(".".join([crate, "proofs", *outer, ""]))
-    if re.search(rf"`Rattle\.{module}(?:(?:{'|'.join(map(re.escape, folders))})\.\w+\.|\+\w+\.\w+\.{last}-)", said):
+    if last in in_cycles(crate):
+        goals = OPEN.findall(said) + [goal for file, goal in notes if file in ("/".join(outer), "/".join(outer[:-1]))]
+        goals += re.findall(rf"`Rattle\.{module}\+\w+\.\w+\.([\w-]+)", said)
+        return any(re.match(rf"{last}-(?!(?:\d+-)?requires)", goal) for goal in goals)
+    expected = EXPECTED.match(said)
+    if expected and expected[1] in ("/".join([*outer, last]), "/".join([*outer, f"+{last}"])):
         return True
-    if not re.search(rf"(?:{module}|/proofs/{'/'.join([*outer, ''])})\+", said):
-        return False
-    goals = OPEN.findall(said) + [goal for file, goal in notes if file in ("/".join(outer), "/".join(outer[:-1]))]
-    return any(re.match(rf"{last}-(?!(?:\d+-)?requires)", goal) for goal in goals)
+    return said == "not proved" or re.search(rf"`Rattle\.{module}\+?{last}\.", said) is not None
 
 
 def refusals(output):
@@ -439,40 +437,47 @@ def tried(crate, copy, edits, words=("rt", "check", "--jobs", "1"), until=None):
 
 
 def put_off(crate, rounds, number, said):
-    """Puts the edits of a round that could not be judged beside others into a further round. Without others they stay: they have failed."""
+    """Puts the edits of a round that could not be judged beside others into later ones, or into a further round. Without others they stay:
+    they have failed."""
     kept, output, used = said
     off = [edit for edit in kept if waits(crate, edit, output)]
     if not off or len(off) == len(rounds[number]):
         return said
     rounds[number] = [edit for edit in rounds[number] if edit not in off]
-    rounds.append(off)
+    later = rounds[number + 1 :]
+    rounds[number + 1 :] = rounds_of(off, rounds=later)
     return [edit for edit in kept if edit not in off], output, used
 
 
-def tried_apart(crate, edits, sandbox):
-    """The same for a round in a sandbox of its own."""
-    said = tried(crate, copied(crate, sandbox), edits)
+def tried_in_turn(crate, rounds, copy, words, until=None):
+    """What each round of a crate came to, one after the other on a copy of the crate, as far as it was tried until that time. What a check
+    proved serves the next."""
+    said = {}
+    # Rounds may be added on the way.
+    for number, edits in enumerate(rounds):
+        one = tried(crate, copy, edits, words, until) if until is None or time.monotonic() < until else None
+        if one is None:
+            break
+        said[number] = put_off(crate, rounds, number, one)
+    return said
+
+
+def tried_over_kept(crate, rounds, sandbox):
+    """The same over the work that a check kept."""
+    said = tried_in_turn(crate, rounds, copied(crate, sandbox), ["rt", "check", "--jobs", "1"])
     shutil.rmtree(sandbox)
     return said
 
 
-def tried_in_turn(crate, rounds, sandbox, until):
-    """What each round of a crate came to over the libraries that `rt ci` left, as far as it was tried until that time. What a check proved
-    serves the next."""
-    said, rlibs = {}, libraries.left_by_gate(crate)
+def tried_over_gate(crate, rounds, sandbox, until):
+    """The same over the libraries that `rt ci` left; nothing where one of them isn't there."""
+    rlibs = libraries.left_by_gate(crate)
     if rlibs is None:
-        return said
-    copy = os.path.join(sandbox, crate)
-    shutil.copytree(os.path.join(ROOT, "crates", crate), copy, ignore=shutil.ignore_patterns("out"))
-    os.makedirs(os.path.join(copy, "out", "incremental"))
-    words = [*libraries.words("check", crate, rlibs), "--jobs", "1"]
-    # Rounds may be added on the way.
-    for number, edits in enumerate(rounds):
-        one = tried(crate, copy, edits, words, until) if time.monotonic() < until else None
-        if one is None:
-            break
-        said[number] = put_off(crate, rounds, number, one)
-    shutil.rmtree(copy)
+        return {}
+    shutil.copytree(os.path.join(ROOT, "crates", crate), sandbox, ignore=shutil.ignore_patterns("out"))
+    os.makedirs(os.path.join(sandbox, "out", "incremental"))
+    said = tried_in_turn(crate, rounds, sandbox, [*libraries.words("check", crate, rlibs), "--jobs", "1"], until)
+    shutil.rmtree(sandbox)
     return said
 
 
@@ -523,53 +528,37 @@ def stale(crates, known, most):
     return rounds, refused_before
 
 
-def try_all(rounds, jobs, keep):
-    """Tries all rounds, each in a sandbox of its own over the work that a check kept; the number of edits that were refused and of those
-    that were not."""
+def judge(rounds, jobs, keep, begin):
+    """Tries the rounds of each crate, crates side by side in the order that they are in, each in a sandbox of its own; the number of edits that were
+    refused and of those that were not."""
     passed = failed = 0
-    if not sandboxes.prove(repository.below(rounds, repository.crates()), repository.crates(), jobs):
-        return 0, 1
     with tempfile.TemporaryDirectory(prefix="edits-", dir=sandboxes.place()) as sandbox, ThreadPoolExecutor(jobs) as pool:
-        begun, said = {}, {crate: {} for crate in rounds}
-
-        def begin(crate, number):
-            begun[pool.submit(tried_apart, crate, rounds[crate][number], os.path.join(sandbox, f"{crate}-{number}"))] = crate, number
-
-        for crate in sorted(rounds, key=lambda crate: -sum(map(len, rounds[crate]))):
-            for number in range(len(rounds[crate])):
-                begin(crate, number)
-        while begun:
-            done = next(as_completed(begun))
-            crate, number = begun.pop(done)
-            there = len(rounds[crate])
-            said[crate][number] = put_off(crate, rounds[crate], number, done.result())
-            for further in range(there, len(rounds[crate])):
-                begin(crate, further)
-            if len(said[crate]) == len(rounds[crate]):
-                refused_now, kept_now = report(crate, rounds[crate], said[crate], keep)
-                passed, failed = passed + refused_now, failed + kept_now
-                if not kept_now:
-                    remember([crate])
-    return passed, failed
-
-
-def try_some(rounds, jobs, keep, minutes):
-    """Tries what can be tried in so many minutes; the number of edits that were refused, of those that were not, and of those that
-    weren't tried."""
-    passed = failed = 0
-    until, last = time.monotonic() + 60 * minutes, changed_last()
-    order = list(repository.crates())
-    first = sorted(rounds, key=lambda crate: (crate not in last, order.index(crate)))
-    with tempfile.TemporaryDirectory(prefix="edits-", dir=sandboxes.place()) as sandbox, ThreadPoolExecutor(jobs) as pool:
-        begun = {pool.submit(tried_in_turn, crate, rounds[crate], sandbox, until): crate for crate in first}
+        begun = {pool.submit(begin, crate, rounds[crate], os.path.join(sandbox, crate)): crate for crate in rounds}
         for done in as_completed(begun):
             crate, said = begun[done], done.result()
             refused_now, kept_now = report(crate, rounds[crate], said, keep)
             passed, failed = passed + refused_now, failed + kept_now
             if len(said) == len(rounds[crate]) and not kept_now:
                 remember([crate])
-    skipped = sum(len(one) for each in rounds.values() for one in each) - passed - failed
-    return passed, failed, skipped
+    return passed, failed
+
+
+def try_all(rounds, jobs, keep):
+    """Tries all rounds over the work that checks kept; the number of edits that were refused and of those that were not."""
+    if not sandboxes.prove(repository.below(rounds, repository.crates()), repository.crates(), jobs):
+        return 0, 1
+    longest_first = sorted(rounds, key=lambda crate: -sum(map(len, rounds[crate])))
+    return judge({crate: rounds[crate] for crate in longest_first}, jobs, keep, tried_over_kept)
+
+
+def try_some(rounds, jobs, keep, minutes):
+    """Tries what can be tried in so many minutes over the libraries that `rt ci` left; the number of edits that were refused, of those that
+    were not, and of those that weren't tried."""
+    until, last, order = time.monotonic() + 60 * minutes, changed_last(), list(repository.crates())
+    first = sorted(rounds, key=lambda crate: (crate not in last, order.index(crate)))
+    count = sum(len(one) for each in rounds.values() for one in each)
+    passed, failed = judge({crate: rounds[crate] for crate in first}, jobs, keep, functools.partial(tried_over_gate, until=until))
+    return passed, failed, max(0, count - passed - failed)
 
 
 def main():
