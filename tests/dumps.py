@@ -1,12 +1,13 @@
 #!/usr/bin/env python3
 """Dumps the database that each script leaves, runs the dump in a new session, and dumps again.
 
-  tests/dumps.py --program PATH [--only WORD]
+  tests/dumps.py --program PATH [--only WORD] [--deep COUNT]
 
 The dump has to be accepted throughout, the second dump has to be the first, which compares tables, constraints and triggers with their
 names, modes and order, and the rows of each table are compared: those after the script with those after its dump. Status and standard
 error have to agree with the transcript of the script. A script with a fault has no dump; what comes before its fault is dumped in its
-place. A dump that is longer than a script is not run. Then each script is laid out by --format: what is written has to have the same
+place. A dump that is longer than a script is not run. The same is tried of COUNT random databases that are hard to write again
+(`made/deep.py`), 2,000 of them unless it is said otherwise. Then each script is laid out by --format: what is written has to have the same
 transcript, and to be laid out as itself. The last line is `N passed, N failed`; the status is 1 if something failed."""
 import argparse
 import itertools
@@ -14,10 +15,12 @@ import os
 import re
 import subprocess
 import sys
+from concurrent.futures import ThreadPoolExecutor
 
 sys.dont_write_bytecode = True
 sys.path.insert(0, os.path.dirname(os.path.abspath(__file__)))
 import run
+from made import deep
 
 # A script of the program may have no more bytes; what is asked after it needs some.
 LONGEST = 1_048_576 - 10_000
@@ -154,10 +157,41 @@ def laid_out(program, script):
     return why + ([] if started(program, done.stdout, "--format").stdout == done.stdout else ["the layout of the layout differs"])
 
 
+def deeply(program, seed):
+    """Why the dump of the random database of this seed isn't as it should be."""
+    script = deep.script(seed).encode()
+    done = started(program, script, "--dump")
+    if done.returncode > 1 or b"can't be read" in done.stderr:
+        return [f"status {done.returncode}, standard error {done.stderr[-300:]!r}"]
+    again = started(program, done.stdout, "--dump")
+    return [] if (again.stdout, again.stderr, again.returncode) == (done.stdout, b"", 0) else ["the dump of the dump differs"]
+
+
+def in_other_places(length, count):
+    """A script whose dump gives its constraints other places: a NOT NULL comes after a foreign key to the table itself, and so many
+    rows need more than one INSERT. The name of the table has so many characters, and those of the constraints are generated."""
+    name = "n" * length
+    rows = ", ".join(f"({n}, {n + 1 if n + 1 < count else 'NULL'}, 0)" for n in range(count))
+    return f"CREATE TABLE {name} (id INT PRIMARY KEY, next INT REFERENCES {name} INITIALLY DEFERRED, word INT NOT NULL); INSERT INTO {name} VALUES {rows}; COMMIT;".encode()
+
+
+def refused(program):
+    """Why a database whose dump would have other names isn't refused: generated ones that can't be written change with their places. With
+    a shorter name they are written, and with fewer rows each keeps its place."""
+    line = b"sqlkeep: the dump doesn't make the same database again\n"
+    done = started(program, in_other_places(128, 12_000), "--dump")
+    why = [] if (done.stdout, done.stderr, done.returncode) == (b"", line, 2) else [f"status {done.returncode}, standard error {done.stderr!r}"]
+    for length, count in ((120, 12_000), (128, 100)):
+        done = started(program, in_other_places(length, count), "--dump")
+        why += [] if (done.stderr, done.returncode) == (b"", 0) and done.stdout else [f"{length}, {count}: status {done.returncode}, {done.stderr!r}"]
+    return why
+
+
 def main():
     parser = argparse.ArgumentParser(description=__doc__, formatter_class=argparse.RawDescriptionHelpFormatter)
     parser.add_argument("--program", required=True)
     parser.add_argument("--only", default="")
+    parser.add_argument("--deep", type=int, default=2000)
     words = parser.parse_args()
     program = os.path.abspath(words.program)
     passed = failed = 0
@@ -168,6 +202,16 @@ def main():
         passed, failed = passed + (not why), failed + bool(why)
         for line in why:
             print(f"FAILED {what} of {name}: {line}")
+    with ThreadPoolExecutor(os.cpu_count()) as pool:
+        seeds = range(0 if words.only else words.deep)
+        for seed, why in zip(seeds, pool.map(lambda seed: deeply(program, seed), seeds)):
+            passed, failed = passed + (not why), failed + bool(why)
+            for line in why:
+                print(f"FAILED dump of the random database {seed}: {line}")
+    why = refused(program)
+    passed, failed = passed + (not why), failed + bool(why)
+    for line in why:
+        print(f"FAILED dump with names in other places: {line}")
     print(f"{passed} passed, {failed} failed")
     return int(failed > 0)
 

@@ -95,6 +95,9 @@ def options(program):
     words = (b'--depth', b'--changes', b'--explain', b'--json', b'--dump', b'--format', b'--version', b'FILE', b'Limits:', b'Examples:')
     good = status == 0 and err == b'' and out.endswith(b'\n') and all(word in out for word in words)
     yield 'options: --help', [] if good else ['status %d, got %r, standard error %r' % (status, out[:200], err[:200])]
+    for name, line in ((b'\xff.sql', b"a word of the command line isn't UTF-8; give such a file on standard input"), (b'\x1b[2J', b'cannot read the file: no such file')):
+        got = run(program, b'', [name])
+        yield 'options: the file %r' % name, [] if got == (b'', 2, b'sqlkeep: %s\n' % line) else ['got %r' % (got,)]
     for word in ('--version', '-V'):
         out, status, err = run(program, b'SELECT * FROM t;', [word])
         good = status == 0 and err == b'' and re.fullmatch(rb'sqlkeep %s \([^\n]*\)\n' % re.escape(read('../VERSION').strip()), out)

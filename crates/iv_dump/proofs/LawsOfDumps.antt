@@ -14,7 +14,7 @@ use Rattle.iv_syntax.specs.declared.table.TableRule.{TableRule}
 use Rattle.iv_syntax.specs.declared.trigger.TriggerDefinition.{TriggerDefinition}
 use Rattle.iv_catalogue.specs.declared.catalogue.Column.{Column}
 use Rattle.iv_resolution.specs.Constraints.{is_deferrable, initial_mode, column_constraint, element_constraints, written_constraints}
-use Rattle.iv_restate.specs.Constraints.{column_constraint_of, columns_at, table_constraint_of, table_name_at, table_rule_of, time_of, with_rule}
+use Rattle.iv_restate.specs.Constraints.{column_constraint_of, columns_at, table_constraint_of, table_name_at, table_rule_of, time_of, with_rule, written_name}
 use Rattle.iv_restate.specs.Statements.{after_null, before_null, column_element, constraint_elements, count_before, count_up_to, elements_of, from_null, tuple_of, up_to_null}
 use Rattle.iv_restate.specs.TableLaws.{AreInOrder, AreOfTable, IsOfTable}
 use Rattle.iv_restate.specs.Triggers.{CreatesTrigger}
@@ -281,7 +281,7 @@ own_said tables [] h = refl
 own_said tables (k ∷ ks) (h, hs) =
     let w = written_of tables k h in
     ap (λ ws. map said_by (written_constraints (map element.Constraint ws))) (filter_one tables k ks (with_rule k w.0) w.1)
-    ∙ ap (λ x. x ∷ map said_by (written_constraints (constraint_elements tables ks))) (said_as k.deferrable k.initially (Some k.name))
+    ∙ ap (λ x. x ∷ map said_by (written_constraints (constraint_elements tables ks))) (said_as k.deferrable k.initially (written_name k.name))
     ∙ ap (λ xs. said_of k ∷ xs) (own_said tables ks hs)
 
 -- in a column
@@ -289,7 +289,7 @@ column_said : (tables : List Table) (name : List ℕ) (ks : List Constraint)
     → map said_by (map (column_constraint name) (map (column_constraint_of tables) ks)) ≡ map said_of ks
 column_said tables name [] = refl
 column_said tables name (k ∷ ks) =
-    ap (λ x. x ∷ map said_by (map (column_constraint name) (map (column_constraint_of tables) ks))) (said_as k.deferrable k.initially (Some k.name))
+    ap (λ x. x ∷ map said_by (map (column_constraint name) (map (column_constraint_of tables) ks))) (said_as k.deferrable k.initially (written_name k.name))
     ∙ ap (λ xs. said_of k ∷ xs) (column_said tables name ks)
 
 elements_said : (tables : List Table) (place : ℕ) (columns : List Column) (ks : List Constraint) → AreInOrder place columns ks
@@ -320,7 +320,7 @@ said_rows name (b ∷ batches) = said_rows name batches
 said_added : (tables : List Table) (k : Constraint) → IsOfTable k.rule → flat_map said (part_statements tables (added k)) ≡ said_of k ∷ []
 said_added tables k h =
     let w = written_of tables k h in
-    ap (flat_map said) (added_some tables k (with_rule k w.0) w.1) ∙ ap (λ x. x ∷ []) (said_as k.deferrable k.initially (Some k.name))
+    ap (flat_map said) (added_some tables k (with_rule k w.0) w.1) ∙ ap (λ x. x ∷ []) (said_as k.deferrable k.initially (written_name k.name))
 
 said_parts : (tables : List Table) (parts : List Part) → AreParts tables parts → EachInOrder parts
     → flat_map said (flat_map (part_statements tables) parts) ≡ map said_of (flat_map part_constraints parts)

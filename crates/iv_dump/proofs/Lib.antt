@@ -1,9 +1,7 @@
 pub mod Adding
-pub mod Keeping
 pub mod LawsOfDumps
 pub mod Made
 pub mod Owned
 pub mod Pushed
-pub mod Selected
 pub mod Told
 pub mod WrittenChecks

@@ -1,6 +1,6 @@
 -- What the functions say, by what those that they call say.
-use Rattle.std.proofs.Common.{◌≡◌, ℕ, ◌+◌, ◌≤◌, ◌<◌, true, List, [], ◌∷◌, ◌++◌, ◌∙◌, Option, Some, IfSome, Result, Ok, Err, IfOk, OnOk, refl, sym, ap, subst, filter, length, map, take, drop, get_or, slice_get, append-nil}
-use Rattle.std.proofs.lemmas.List.{length-map}
+use Rattle.std.proofs.Common.{◌≡◌, ℕ, ◌+◌, ◌≤◌, ◌<◌, true, List, [], ◌∷◌, ◌++◌, ◌∙◌, Option, Some, IfSome, Result, Ok, Err, IfOk, OnOk, refl, sym, ap, subst, filter, length, map, take, drop, get_or, slice_get, append-nil, append_assoc}
+use Rattle.std.proofs.lemmas.List.{drop_more, length-map}
 use Rattle.iv_catalogue.specs.Catalogues.{Schema}
 use Rattle.iv_machine.specs.Machine.{State}
 use Rattle.iv_restate.specs.Statements.{add_constraint}
@@ -94,16 +94,6 @@ whole_if schema lists ts ks left gs a b c d (Ok u) f m g et ek eg = λ l start.
           subst (λ x. Makes ts a c x lists ks []) (append-nil ts) (subst (λ x. Makes ts a c (ts ++ []) x ks []) (append-nil lists)
           (makes_then ts a b c ts [] lists [] ks left [] f m))
 
-names_rows : (s : State) (tables : List Table) → map (rows_named s) (map (λ (t : Table). t.name) tables) ≡ map (λ (t : Table). rows_named s t.name) tables
-names_rows s [] = refl
-names_rows s (t ∷ tables) = ap (λ xs. rows_named s t.name ∷ xs) (names_rows s tables)
-
-pub rows_if : {L : Type 0} (r : Result L DumpRefusal) (items : L → List (List (List Value))) (s : State) (tables : List Table) (names : List (List ℕ))
-    → IfOk r (λ l. items l ≡ map (rows_named s) names) → names ≡ map (λ (t : Table). t.name) tables → tables ≡ s.schema.tables
-    → IfOk r (λ l. items l ≡ rows_of s)
-rows_if (Ok l) items s tables names h n t = h ∙ ap (map (rows_named s)) n ∙ names_rows s tables ∙ ap (map (λ (x : Table). rows_named s x.name)) t
-rows_if (Err x) items s tables names h n t = tt {0}
-
 pub dump_if : {L : Type 0} (r : Result L DumpRefusal) (texts : L → List (List ℕ)) (s : State) (schema : Schema) (lists : List (List (List Value))) (start new : Filled)
     → (length lists ≡ length schema.tables → start ≡ ([], []) → Whole schema lists new) → IfOk r (λ x. texts x ≡ new.0 ++ new.1 ∷ [])
     → schema ≡ s.schema → lists ≡ rows_of s → start ≡ ([], []) → IfOk r (λ x. AreDump s (texts x))
@@ -116,3 +106,17 @@ dump_if (Ok x) texts s schema lists start new f t es el e =
       dump = subst (λ (y : Schema). IsDump y (rows_of s) whole.0) es (subst (λ ys. IsDump schema ys whole.0) el whole.1);
       scripts_are = subst (AreScripts whole.0) (sym t) (all_scripts new whole.0 whole.2);
     }
+
+-- the rows of the table at the next place
+pub rows_more : (s : State) (tables : List Table) (n : ℕ) (lists new : List (List (List Value))) (t : Table) (rows : List (List Value))
+    → lists ++ map (λ (x : Table). rows_named s x.name) (drop n tables) ≡ map (λ (x : Table). rows_named s x.name) tables
+    → n < length tables → t ≡ get_or tables n t → rows ≡ rows_named s t.name → new ≡ lists ++ rows ∷ []
+    → new ++ map (λ (x : Table). rows_named s x.name) (drop (n + 1) tables) ≡ map (λ (x : Table). rows_named s x.name) tables
+rows_more s tables n lists new t rows so_far within at found pushed =
+    let each : List Table → List (List (List Value)) = map (λ (x : Table). rows_named s x.name) in
+    ap (λ xs. xs ++ each (drop (n + 1) tables)) pushed
+    ∙ append_assoc lists (rows ∷ []) (each (drop (n + 1) tables))
+    ∙ ap (λ r. lists ++ r ∷ each (drop (n + 1) tables)) found
+    ∙ ap (λ (x : Table). lists ++ rows_named s x.name ∷ each (drop (n + 1) tables)) at
+    ∙ ap (λ xs. lists ++ each xs) (sym (drop_more tables n t within))
+    ∙ so_far

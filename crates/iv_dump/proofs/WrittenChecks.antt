@@ -20,7 +20,7 @@ use Rattle.iv_restate.specs.Types.expr
 use Rattle.iv_restate.specs.Types.sign
 use Rattle.iv_restate.specs.Types.expression
 use Rattle.iv_restate.specs.Types.condition
-use Rattle.iv_restate.specs.Parentheses.{is_sum, is_product, is_zero, is_atom, is_either, is_both, is_negated, summed}
+use Rattle.iv_restate.specs.Parentheses.{as_term, takes_sign, is_sum, is_product, is_zero, is_either, is_both, is_negated, summed}
 use Rattle.iv_restate.specs.Trees.{no_naming, check_range, check_of, literal_of, expression_of, condition_of, column_or_null, column_named}
 use Rattle.iv_restate.specs.Laws.{IsLiteral, IsColumn, IsOver, IsCheckOver}
 use Rattle.iv_dump.specs.Laws.{AreNames, ChecksCanBeWritten}
@@ -100,8 +100,8 @@ enclosed_parts : (c : Condition) (b : Bool) → TestParts c → TestParts (if b 
 enclosed_parts c true h = h
 enclosed_parts c false h = h
 
-difference_parts : (a b : Expression) (z : Bool) → Parts a → Parts b → Parts (if z then signed sign.Minus b else summed sign.Minus a b)
-difference_parts a b true h i = i
+difference_parts : (a b : Expression) (z : Bool) → Parts a → Parts b → Parts (if z then signed sign.Minus (as_term b) else summed sign.Minus a b)
+difference_parts a b true h i = grouped_parts b (is_sum b) i
 difference_parts a b false h i = (h, grouped_parts b (is_sum b) i)
 
 literal_parts : (v : Value) → IsLiteral v → Parts (literal_of v)
@@ -134,7 +134,7 @@ expression_parts columns (expr.Variable s place) n h = absurd h
 expression_parts columns (plus a b) n (h, i) =
     (expression_parts columns a n h, grouped_parts (expression_of no_naming (check_range columns ∷ []) b) (is_sum (expression_of no_naming (check_range columns ∷ []) b)) (expression_parts columns b n i))
 expression_parts columns (minus a b) n (h, i) =
-    difference_parts (expression_of no_naming (check_range columns ∷ []) a) (expression_of no_naming (check_range columns ∷ []) b) (is_zero (expression_of no_naming (check_range columns ∷ []) a) && is_atom (expression_of no_naming (check_range columns ∷ []) b)) (expression_parts columns a n h) (expression_parts columns b n i)
+    difference_parts (expression_of no_naming (check_range columns ∷ []) a) (expression_of no_naming (check_range columns ∷ []) b) (is_zero (expression_of no_naming (check_range columns ∷ []) a) && takes_sign (expression_of no_naming (check_range columns ∷ []) b)) (expression_parts columns a n h) (expression_parts columns b n i)
 expression_parts columns (times a b) n (h, i) = (
   grouped_parts (expression_of no_naming (check_range columns ∷ []) a) (is_sum (expression_of no_naming (check_range columns ∷ []) a)) (expression_parts columns a n h),
   grouped_parts (expression_of no_naming (check_range columns ∷ []) b) (is_sum (expression_of no_naming (check_range columns ∷ []) b) || is_product (expression_of no_naming (check_range columns ∷ []) b)) (expression_parts columns b n i),

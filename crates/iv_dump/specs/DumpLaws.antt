@@ -9,6 +9,7 @@ use Rattle.iv_syntax.specs.declared.statement.ValueOrDefault.{ValueOrDefault}
 use Rattle.iv_syntax.specs.declared.trigger.TriggerDefinition.{TriggerDefinition}
 use Rattle.iv_catalogue.specs.Catalogues.{Schema}
 use Rattle.iv_resolution.specs.Constraints.{WrittenConstraint, is_deferrable, initial_mode, table_constraint, written_constraints}
+use Rattle.iv_restate.specs.Constraints.{written_name}
 use Rattle.iv_restate.specs.Statements.{tuple_of}
 use Rattle.iv_restate.specs.TableLaws.{AreInOrder}
 use Rattle.iv_dump.specs.Types.{Value, Statement, Table, Constraint}
@@ -55,7 +56,7 @@ InsertsAreCommitted = (schema : Schema) (rows : List (List (List Value))) (befor
 
 -- ---- constraints
 
--- what is said of a constraint: its name, whether it is deferrable, and its mode when a transaction begins
+-- what is said of a constraint: its name, unless it is longer than a name may be, whether it is deferrable, and its mode when a transaction begins
 pub record Said : Type 0 where
   pub name : Option (List ℕ)
   pub deferrable : Bool
@@ -71,7 +72,7 @@ said (statement.AlterTable table k) = said_by (table_constraint k) ∷ []
 said _ = []
 
 abbrev pub said_of : Constraint → Said
-said_of k = record { name = Some k.name; deferrable = k.deferrable; initially = k.initially }
+said_of k = record { name = written_name k.name; deferrable = k.deferrable; initially = k.initially }
 
 -- the constraints of each CREATE TABLE are in the order that a text of it can have
 abbrev pub EachInOrder : List Part → Type 0

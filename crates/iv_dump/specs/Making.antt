@@ -1,8 +1,5 @@
 -- How a dump is written, part by part.
-use Rattle.std.specs.Prelude.{◌≡◌, ◌⊎◌, ℕ, suc, ◌==◌, false, if◌then◌else◌, List, [], ◌∷◌, ◌++◌, None, filter, flat_map, map}
-use Rattle.iv_syntax.specs.declared.statement.Select.{Select}
-use Rattle.iv_syntax.specs.declared.statement.Select.TheVariants as select
-use Rattle.iv_syntax.specs.declared.statement.SelectList.TheVariants.{Star}
+use Rattle.std.specs.Prelude.{◌≡◌, ◌⊎◌, ℕ, suc, ◌==◌, false, if◌then◌else◌, List, [], ◌∷◌, ◌++◌, filter, flat_map, map}
 use Rattle.iv_restate.specs.Statements.{create_table}
 use Rattle.iv_dump.specs.Types.{Value, Statement, Table, Constraint, Trigger}
 use Rattle.iv_dump.specs.Scripts.{joined, texts_of}
@@ -65,9 +62,3 @@ pub record Triggers (tables : List Table) (old new : Filled) (triggers left : Li
   pub adds : Adds old new statements
   pub created : CreateTriggers tables taken statements
   pub split : triggers ≡ taken ++ left
-
--- ---- rows
-
--- SELECT * of a table
-abbrev pub rows_query : List ℕ → Select
-rows_query name = select.Rows Star (record { table = name; alias = None }) None

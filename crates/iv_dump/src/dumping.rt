@@ -34,15 +34,12 @@ fn push_database(
 
 /// The database as scripts of at most 1,048,576 bytes, to be run one after another in a new session: each table with
 /// its constraints and then its rows, in creation order; constraints that refer to later tables after these; triggers
-/// last, so that they don't fire. The rows are read by SELECT, so the account of the last statement is gone; all else
-/// stays. It takes time and memory in proportion to the database.
-pub fn dump<X: Executor>(alloc: Global, database: &mut X) -> Result<Vec<String>, DumpRefusal>
+/// last, so that they don't fire. It takes time and memory in proportion to the database.
+pub fn dump<X: Executor>(alloc: Global, database: &X) -> Result<Vec<String>, DumpRefusal>
     ensures short { IfOk result (λ scripts. AreShort (map string_bytes scripts.items)) }
-    ensures statements { IfOk result (λ scripts. AreDump (X.state database.old) (map string_bytes scripts.items)) }
-    ensures outside { IfOk result (λ _. is_some (X.state database.old).start ≡ false) }
-    ensures kept { X.state database.new ≡ X.state database.old }
-    ensures in_transaction { is_some (X.state database.old).start ≡ true
-        → (result ≡ Err InTransaction) × (database.new ≡ database.old) }
+    ensures statements { IfOk result (λ scripts. AreDump (X.state database.now) (map string_bytes scripts.items)) }
+    ensures outside { IfOk result (λ _. is_some (X.state database.now).start ≡ false) }
+    ensures in_transaction { is_some (X.state database.now).start ≡ true → result ≡ Err InTransaction }
 {
     if database.in_transaction() {
         return Err(DumpRefusal::InTransaction);

@@ -10,5 +10,6 @@ mod queries;
 mod refusal;
 mod scripts;
 
+pub use constraints::{has_null_after_key, others, own_keys};
 pub use dumping::dump;
 pub use refusal::DumpRefusal;

@@ -8,6 +8,8 @@ pub enum DumpRefusal {
     InTransaction,
     /// A statement would be longer than a script may be.
     TooLong,
+    /// What the scripts make isn't the database.
+    Differs,
     /// An allocation failed.
     NoMemory,
 }

@@ -12,7 +12,7 @@ use Rattle.iv_script.specs.declared.summary.RunFault.{RunFault}
 use Rattle.iv_script.specs.declared.summary.RunFault.TheVariants.{Read, TooLong, NotUtf8, Write, NoMemory}
 use Rattle.iv_program.specs.declared.notes.Notes.{Notes}
 use Rattle.iv_program.specs.declared.notes.Stop.{Stop}
-use Rattle.iv_program.specs.declared.notes.Stop.TheVariants.{Run, LongStatement}
+use Rattle.iv_program.specs.declared.notes.Stop.TheVariants.{Run, LongStatement, NotRestored}
 use Rattle.iv_program.specs.declared.script.Script.{Script}
 use Rattle.iv_program.specs.declared.script.ScriptFault.{ScriptFault}
 use Rattle.iv_program.specs.Notes.{fault_alone}
@@ -66,6 +66,7 @@ unwritten longest (Run Read) found failed failed_then before after f same u = ab
 unwritten longest (Run TooLong) found failed failed_then before after f same u = absurd u
 unwritten longest (Run NotUtf8) found failed failed_then before after f same u = absurd u
 unwritten longest LongStatement found failed failed_then before after f same u = (f, same, u)
+unwritten longest NotRestored found failed failed_then before after f same u = (f, same, u)
 
 -- one that was read, and isn't written
 pub stopped_writing : (longest : ℕ) (done : Result Notes Stop) (found : Option (List ℕ)) (failed failed_then : ℕ) (before after : SinkState)

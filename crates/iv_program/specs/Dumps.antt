@@ -8,11 +8,12 @@ use Rattle.iv_dump.specs.Dumps.{AreDump}
 use Rattle.iv_dump.specs.Scripts.{AreShort}
 use Rattle.iv_dump.specs.declared.refusal.DumpRefusal.{DumpRefusal}
 use Rattle.iv_dump.specs.declared.refusal.DumpRefusal.TheVariants as refusal
+use Rattle.iv_restore.specs.Restoring.{Restores}
 use Rattle.iv_text.specs.Sinks.{SinkState}
 use Rattle.iv_script.specs.declared.summary.RunFault.TheVariants.{NoMemory}
 use Rattle.iv_program.specs.declared.notes.Notes.{Notes}
 use Rattle.iv_program.specs.declared.notes.Stop.{Stop}
-use Rattle.iv_program.specs.declared.notes.Stop.TheVariants.{Run, LongStatement}
+use Rattle.iv_program.specs.declared.notes.Stop.TheVariants.{Run, LongStatement, NotRestored}
 use Rattle.iv_program.specs.declared.script.ScriptFault.{ScriptFault}
 use Rattle.iv_program.specs.Executing.{Leaves, rolled_back}
 use Rattle.iv_program.specs.Notes.{TellsNotes, fault_alone, notes_status}
@@ -22,6 +23,7 @@ use Rattle.iv_program.specs.Reads.{IsRead}
 abbrev pub stop_of : DumpRefusal → Stop
 stop_of refusal.NoMemory = Run NoMemory
 stop_of refusal.TooLong = LongStatement
+stop_of refusal.Differs = NotRestored
 stop_of refusal.InTransaction = LongStatement
 
 -- scripts, one after another
@@ -29,13 +31,14 @@ abbrev pub joined : List (List ℕ) → List ℕ
 joined [] = []
 joined (script ∷ scripts) = script ++ joined scripts
 
--- The scripts of a dump of this state, which is outside a transaction, were appended one after another; none is longer than a script
--- may be, and together they are statements that make what there is.
+-- The scripts of a dump of this state, which is outside a transaction, were appended one after another. None is longer than a script
+-- may be, together they are statements that make what there is, and run one after another they make the same database.
 pub record WritesDump (state : State) (before after : SinkState) : Type 0 where
   pub outside : is_some state.start ≡ false
   pub scripts : List (List ℕ)
   pub short : AreShort scripts
   pub dump : AreDump state scripts
+  pub restores : Restores state scripts
   pub appended : Appends before.contents after.contents (joined scripts)
 
 -- The statements ran from this state on, an open transaction was rolled back, and a dump of that was written.

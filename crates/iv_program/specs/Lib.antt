@@ -9,3 +9,4 @@ pub mod Stopping
 pub mod Formats
 pub mod Executing
 pub mod Dumps
+pub mod Unread

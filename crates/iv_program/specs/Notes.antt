@@ -8,7 +8,7 @@ use Rattle.iv_script.specs.declared.place.Place.{Place}
 use Rattle.iv_program.specs.declared.script.ScriptFault.{ScriptFault}
 use Rattle.iv_program.specs.declared.notes.Notes.{Notes}
 use Rattle.iv_program.specs.declared.notes.Stop.{Stop}
-use Rattle.iv_program.specs.declared.notes.Stop.TheVariants.{Run, LongStatement}
+use Rattle.iv_program.specs.declared.notes.Stop.TheVariants.{Run, LongStatement, NotRestored}
 
 -- only the fault: no statement is run
 abbrev pub fault_alone : Option ScriptFault → Notes
@@ -52,6 +52,7 @@ notes_text notes = fault_note notes.fault ++ (refused_note notes.refused ++ open
 abbrev pub stop_text : Stop → List ℕ
 stop_text (Run fault) = run_fault_text fault
 stop_text LongStatement = codes "a statement of the dump is longer than 1048576 bytes"
+stop_text NotRestored = codes "the dump doesn't make the same database again"
 
 abbrev pub stop_line : Stop → List ℕ
 stop_line stop = codes "sqlkeep: " ++ (stop_text stop ++ codes "\n")

@@ -5,16 +5,19 @@ ghost use Rattle.iv_text.specs.Sinks.{FailsNever, FailsOnce};
 ghost use Rattle.iv_text.specs.Writing.{Writes};
 ghost use Rattle.iv_script.specs.Lengths.{Fits};
 ghost use Rattle.iv_program.specs.Dumps.{Dumped, Dumps, DumpsUnless, LeavesDump, WritesDump, stop_of};
-ghost use Rattle.iv_program.specs.Executing.{Does, Leaves, refused_of, rolled_back};
+ghost use Rattle.iv_script.specs.declared.summary.RunFault.TheVariants.{NoMemory};
+ghost use Rattle.iv_step.specs.Step.{step};
+ghost use Rattle.iv_program.specs.declared.notes.Stop.TheVariants.{Run};
+ghost use Rattle.iv_program.specs.Executing.{Leaves, refused_of, rolled_back};
 ghost use Rattle.iv_program.specs.Notes.{TellsStop};
 ghost use Rattle.iv_program.specs.Stopping.{StoppedBy, Unwritten};
 
 use crate::notes::{Notes, Stop, conclude, fault_alone};
 use crate::script::{ScriptFault, read_script};
-use iv_dump::{DumpRefusal, dump};
 use iv_machine::Limits;
+use iv_restore::{DumpRefusal, checked_dump};
 use iv_script::{LONGEST, RunFault};
-use iv_step::{Executor, Outcome};
+use iv_step::{Executor, Outcome, is_memory_refused};
 use iv_syntax::Statement;
 use iv_text::{DeviceFault, Sink, Source, write_all};
 use std::alloc::Global;
@@ -30,29 +33,37 @@ fn refused_of(outcome: &Outcome) -> u64
     }
 }
 
-fn execute_one<X: Executor>(database: &mut X, statement: &Statement) -> u64
-    ensures done { Does (X.state database.old) statement.now (X.state database.new) result }
-    ensures small { result ≤ 1 }
+// Executes a statement; answers 1 if it was refused. It stops if an allocation failed.
+fn execute_one<X: Executor>(database: &mut X, statement: &Statement) -> Result<u64, Stop>
+    ensures state { OnOk result (X.state database.new ≡ (step (X.state database.old) statement.now).state) }
+    ensures answer { IfOk result (λ refused. refused ≡ refused_of (step (X.state database.old) statement.now).answer) }
+    ensures small { IfOk result (λ refused. refused ≤ 1) }
+    ensures stop { IfErr result (λ stop. stop ≡ Run NoMemory) }
 {
     let outcome = database.execute(statement);
+    let no_memory = is_memory_refused(&outcome);
     let refused = refused_of(&outcome);
     drop(outcome);
-    refused
+    if no_memory {
+        return Err(Stop::Run(RunFault::NoMemory));
+    }
+    Ok(refused)
 }
 
 // Executes the statements one after another; answers how many were refused.
-fn execute_all<X: Executor>(database: &mut X, statements: &[Statement]) -> u64
-    ensures ran { Leaves (X.state database.old) statements.now (X.state database.new) result }
+fn execute_all<X: Executor>(database: &mut X, statements: &[Statement]) -> Result<u64, Stop>
+    ensures ran { IfOk result (λ refused. Leaves (X.state database.old) statements.now (X.state database.new) refused) }
+    ensures stop { IfErr result (λ stop. stop ≡ Run NoMemory) }
 {
     let mut rest = statements;
     let mut refused = 0u64;
     let mut number = 0u64;
     while let Some((statement, others)) = rest.split_first() {
         number += 1;
-        refused += execute_one(database, statement);
+        refused += execute_one(database, statement)?;
         rest = others;
     }
-    refused
+    Ok(refused)
 }
 
 // Rolls the open transaction back; answers whether there was one.
@@ -84,21 +95,22 @@ fn stop_of(refusal: DumpRefusal) -> Stop
     match refusal {
         DumpRefusal::NoMemory => Stop::Run(RunFault::NoMemory),
         DumpRefusal::TooLong | DumpRefusal::InTransaction => Stop::LongStatement,
+        DumpRefusal::Differs => Stop::NotRestored,
     }
 }
 
 // Writes a dump of a database that is outside a transaction.
-fn write_dump<X: Executor, W: Sink>(
+fn write_dump<X: Executor + Drop, W: Sink>(
     alloc: Global,
-    database: &mut X,
+    database: &X,
     writer: &mut W,
 ) -> Result<(), Stop>
-    ensures dumped { OnOk result (WritesDump (X.state database.old) (W.state writer.old) (W.state writer.new)) }
+    ensures dumped { OnOk result (WritesDump (X.state database.now) (W.state writer.old) (W.state writer.new)) }
     ensures works { OnOk result (FailsNever (W.state writer.old) (W.state writer.new)) }
     ensures unwritten { IfErr result (λ stop. Unwritten stop (W.state writer.old) (W.state writer.new)) }
     ensures silent { OnErr result (¬ (FailsOnce (W.state writer.old) (W.state writer.new)) → writer.new ≡ writer.old) }
 {
-    let scripts = match dump(alloc, database) {
+    let scripts = match checked_dump(alloc, database) {
         Ok(scripts) => scripts,
         Err(refusal) => return Err(stop_of(refusal)),
     };
@@ -111,7 +123,7 @@ fn write_dump<X: Executor, W: Sink>(
 }
 
 // Executes statements in a database, and writes a dump of what they leave.
-fn dump_after<X: Executor, W: Sink>(
+fn dump_after<X: Executor + Drop, W: Sink>(
     alloc: Global,
     database: &mut X,
     statements: &[Statement],
@@ -123,9 +135,9 @@ fn dump_after<X: Executor, W: Sink>(
     ensures unwritten { IfErr result (λ stop. Unwritten stop (W.state writer.old) (W.state writer.new)) }
     ensures silent { OnErr result (¬ (FailsOnce (W.state writer.old) (W.state writer.new)) → writer.new ≡ writer.old) }
 {
-    let refused = execute_all(database, statements);
+    let refused = execute_all(database, statements)?;
     let is_open = roll_back(database);
-    match write_dump(alloc, database, writer) {
+    match write_dump(alloc, &*database, writer) {
         Ok(()) => Ok(Notes {
             fault: None,
             refused,
@@ -202,9 +214,11 @@ fn dump_script<X: Executor + Drop, R: Source, W: Sink>(
 }
 
 /// Runs the script that the reader gives, under these limits, and writes scripts that make the database which it leaves. A
-/// refused statement left the database as it was, and a transaction that is open at the end is rolled back. The status is
-/// 0 if every statement was accepted, and 1 if one was refused or the script has a fault; of a script with a fault nothing
-/// is run or written. `faults` is told of each of these. With status 2 the line on `faults` says why there is no dump.
+/// refused statement left the database as it was, and a transaction that is open at the end is rolled back. The scripts
+/// are run in a database of their own and compared with the first before they are written. The status is 0 if every
+/// statement was accepted, and 1 if one was refused or the script has a fault; of a script with a fault nothing is run or
+/// written. `faults` is told of each of these. With status 2 the line on `faults` says why there is no dump; so it is if
+/// an allocation failed in a statement.
 pub fn run_dump<X: Executor + Drop, R: Source, W: Sink, E: Sink>(
     alloc: Global,
     limits: Limits,

@@ -2,10 +2,12 @@
 ghost use Rattle.std.specs.Mem.{manually_drop_value};
 
 use iv_account::{Account, Entry};
-use iv_catalogue::{Catalogue, Fault};
+use iv_catalogue::{Catalogue, Cause, Fault};
+use iv_expr::{Row, TableId};
 use iv_machine::Limits;
 use iv_step::{Executor, Outcome};
 use iv_syntax::Statement;
+use sqlite_items::Items;
 use std::alloc::{AllocError, Global};
 use std::marker::Model;
 use std::mem::ManuallyDrop;
@@ -61,6 +63,10 @@ impl<X: Executor + Drop> Executor for Lasting<X> {
 
     fn in_transaction(&self) -> bool {
         self.database.in_transaction()
+    }
+
+    fn rows(&self, table: TableId) -> Result<Items<Row>, Cause> {
+        self.database.rows(table)
     }
 
     fn pending(&self) -> Result<Vec<Fault>, AllocError> {

@@ -12,6 +12,7 @@ mod reading;
 mod running;
 mod script;
 mod task;
+mod unread;
 mod version;
 
 pub use command::USUAL_DEPTH;

@@ -36,6 +36,8 @@ pub enum Stop {
     Run(RunFault),
     /// A statement of the dump would be longer than a script may be.
     LongStatement,
+    /// What the dump makes isn't the database.
+    NotRestored,
 }
 
 impl From<AllocError> for Stop {
@@ -58,6 +60,7 @@ impl Stop {
         match self {
             Stop::Run(fault) => fault.text(),
             Stop::LongStatement => "a statement of the dump is longer than 1048576 bytes",
+            Stop::NotRestored => "the dump doesn't make the same database again",
         }
     }
 }

@@ -7,6 +7,7 @@ use crate::given::{Options, WordsError};
 use crate::reading::options;
 use crate::running::{run_script, status};
 use crate::task::{CLASH, Task, task_of};
+use crate::unread::{opened, refuse_file};
 use iv_machine::Limits;
 use iv_script::{RunFault, Sink, Source, Std};
 use iv_step::Executor;
@@ -14,9 +15,13 @@ use iv_text::write_all;
 use std::alloc::Global;
 use std::convert::AsStr;
 use std::env::Env;
-use std::fs::{File, Files};
+use std::fs::Files;
 use std::io;
 use std::io::Input;
+
+// What is told of a word that isn't UTF-8.
+const NOT_UTF8: &str =
+    "sqlkeep: a word of the command line isn't UTF-8; give such a file on standard input\n";
 
 // Writes a text that was asked for.
 fn tell<W: Sink, E: Sink>(text: &str, writer: &mut W, faults: &mut E) -> u8
@@ -36,10 +41,7 @@ fn refuse_words<W: Sink, E: Sink>(error: WordsError, writer: &mut W, faults: &mu
     match error {
         WordsError::NoMemory => status(faults, Err(RunFault::NoMemory)),
         WordsError::Help(text) | WordsError::Version(text) => tell(&text, writer, faults),
-        WordsError::Refused(text) => {
-            let _ = write_all(faults, text.as_bytes());
-            2
-        }
+        WordsError::Refused(text) => refuse(faults, &text),
     }
 }
 
@@ -75,7 +77,7 @@ fn run_file<X: Executor + Drop, H: Files + Input, W: Sink, E: Sink>(
 ) -> u8
     ensures { result ≤ 2 }
 {
-    let Some(file) = file else {
+    let Some(name) = file else {
         let mut reader = Std::new(rt.reader());
         return run_task::<X, Std<H::Reader>, W, E>(
             alloc,
@@ -86,20 +88,20 @@ fn run_file<X: Executor + Drop, H: Files + Input, W: Sink, E: Sink>(
             faults,
         );
     };
-    match File::open(rt, file) {
+    match opened(rt, name) {
         Ok(file) => {
             let mut reader = Std::new(file);
             run_task::<X, Std<H::File>, W, E>(alloc, limits, task, &mut reader, writer, faults)
         }
-        Err(_) => status(faults, Err(RunFault::Read)),
+        Err(why) => refuse_file(faults, name, why),
     }
 }
 
-// Tells that options don't go together.
-fn refuse_clash<E: Sink>(faults: &mut E) -> u8
+// Tells why nothing is run.
+fn refuse<E: Sink>(faults: &mut E, line: &str) -> u8
     ensures { result ≤ 2 }
 {
-    let _ = write_all(faults, CLASH.as_bytes());
+    let _ = write_all(faults, line.as_bytes());
     2
 }
 
@@ -117,7 +119,7 @@ fn run_options<X: Executor + Drop, H: Files + Input, W: Sink, E: Sink>(
     let file = options.file;
     let task = task_of(options.dump, options.format, options.explain, options.json);
     let Some(task) = task else {
-        return refuse_clash(faults);
+        return refuse(faults, CLASH);
     };
     run_file::<X, H, W, E>(alloc, rt, limits, file, task, writer, faults)
 }
@@ -139,12 +141,12 @@ fn go<X: Executor + Drop, H: Files + Input, S: AsStr, W: Sink, E: Sink>(
     }
 }
 
-// The words of the command line; a fault where they can't be had.
-fn words<H: Env + AllocGlobal>(rt: &H) -> Result<Vec<String>, RunFault> {
+// The words of the command line; none if one of them isn't UTF-8.
+fn words<H: Env + AllocGlobal>(rt: &H) -> Result<Option<Vec<String>>, RunFault> {
     match std::env::args(rt) {
-        Ok(words) => Ok(words.collect(rt.alloc())?),
+        Ok(words) => Ok(Some(words.collect(rt.alloc())?)),
         Err(error) if error.kind() == io::ErrorKind::OutOfMemory => Err(RunFault::NoMemory),
-        Err(_) => Err(RunFault::Read),
+        Err(_) => Ok(None),
     }
 }
 
@@ -159,7 +161,10 @@ pub fn run_program<X: Executor + Drop, H: Env + Files + Input + AllocGlobal, W: 
     ensures { result ≤ 2 }
 {
     match words(rt) {
-        Ok(words) => go::<X, H, String, W, E>(rt.alloc(), rt, words.as_slice(), writer, faults),
+        Ok(Some(words)) => {
+            go::<X, H, String, W, E>(rt.alloc(), rt, words.as_slice(), writer, faults)
+        }
+        Ok(None) => refuse(faults, NOT_UTF8),
         Err(fault) => status(faults, Err(fault)),
     }
 }

@@ -16,9 +16,9 @@ use Rattle.iv_resolution.specs.Scopes.{NamedColumn, Names, named_column, named_c
 use Rattle.iv_resolution.specs.Constraints.{Altered, WrittenConstraint, column_definition, written_columns, defined_column, defined_columns, element_constraints, written_constraints, column_constraint, table_constraint, rule_of_column, is_deferrable, initial_mode}
 use Rattle.iv_resolution.specs.Tables.{created_table, creating}
 use Rattle.iv_resolution.specs.Bound.{bound_column_definition, bound_rule, bound_constraint, bound_place, bound_table}
-use Rattle.iv_restate.specs.Constraints.{time_of, column_rule_of, column_constraint_of, table_rule_of, table_constraint_of, with_rule, definition_of}
+use Rattle.iv_restate.specs.Constraints.{time_of, column_rule_of, column_constraint_of, table_rule_of, table_constraint_of, with_rule, definition_of, written_name}
 use Rattle.iv_restate.specs.Statements.{before_null, from_null, up_to_null, after_null, count_before, count_up_to, constraint_elements, column_element, elements_of}
-use Rattle.iv_restate.specs.TableLaws.{AreDefined, AreNamed, IsRule, IsOwn, AllOwn, IsOfTable, AreOfTable, IsOfColumn, AreOfColumn, AreInOrder, TablesAreThemselves}
+use Rattle.iv_restate.specs.TableLaws.{AreDefined, AreNamed, IsRule, IsOwn, AllOwn, IsOfTable, AreOfTable, IsOfColumn, AreOfColumn, AreInOrder, AreNameable, TablesAreThemselves}
 use Rattle.iv_restate.specs.Laws.{IsColumn}
 use Rattle.iv_restate.proofs.Unbound.{check_bound}
 use Rattle.iv_restate.proofs.WrittenTables.{columns_bound, constraint_bound, deferrable_bound, mode_bound, reference_bound}
@@ -62,7 +62,7 @@ Mean schema own [] [] = Unit {0}
 Mean schema own [] (k ∷ ks) = ⊥
 Mean schema own (w ∷ ws) [] = ⊥
 Mean schema own (w ∷ ws) (k ∷ ks) =
-    (w.name ≡ Some k.name) × (bound_constraint schema (creating schema own) own k.name w ≡ k) × Mean schema own ws ks
+    (w.name ≡ written_name k.name) × (bound_constraint schema (creating schema own) own k.name w ≡ k) × Mean schema own ws ks
 
 mean_both : (schema : Schema) (own : Altered) (ws : List WrittenConstraint) (ks : List Constraint) (vs : List WrittenConstraint) (js : List Constraint)
     → Mean schema own ws ks → Mean schema own vs js → Mean schema own (ws ++ vs) (ks ++ js)
@@ -72,14 +72,15 @@ mean_both schema own (w ∷ ws) [] vs js h i = absurd h
 mean_both schema own (w ∷ ws) (k ∷ ks) vs js h i = (h.0, h.1, mean_both schema own ws ks vs js h.2 i)
 
 numbered : (schema : Schema) (own : Altered) (n : ℕ) (ws : List WrittenConstraint) (ks : List Constraint) → Mean schema own ws ks
-    → map (bound_place schema own) (enumerate_from n ws) ≡ ks
-numbered schema own n [] [] h = refl
-numbered schema own n [] (k ∷ ks) h = absurd h
-numbered schema own n (w ∷ ws) [] h = absurd h
-numbered schema own n (w ∷ ws) (k ∷ ks) h =
+    → AreNameable own.name n ks → map (bound_place schema own) (enumerate_from n ws) ≡ ks
+numbered schema own n [] [] h i = refl
+numbered schema own n [] (k ∷ ks) h i = absurd h
+numbered schema own n (w ∷ ws) [] h i = absurd h
+numbered schema own n (w ∷ ws) (k ∷ ks) h i =
     ap (λ o. bound_constraint schema (creating schema own) own (unwrap_or o (generated_name own.name n)) w ∷ map (bound_place schema own) (enumerate_from (n + 1) ws)) h.0
+    ∙ ap (λ name. bound_constraint schema (creating schema own) own name w ∷ map (bound_place schema own) (enumerate_from (n + 1) ws)) i.0
     ∙ ap (λ x. x ∷ map (bound_place schema own) (enumerate_from (n + 1) ws)) h.1
-    ∙ ap (λ xs. k ∷ xs) (numbered schema own (n + 1) ws ks h.2)
+    ∙ ap (λ xs. k ∷ xs) (numbered schema own (n + 1) ws ks h.2 i.1)
 
 -- ---- elements of their own
 
@@ -177,8 +178,8 @@ whole tables schema own place (c ∷ columns) ks (n, ns) o h =
     (mean_both schema own two (up_to_null place (from_null place ks)) three (after_null place (from_null place ks)) second third)))
 
 pub tables_bound : TablesAreThemselves
-tables_bound tables schema t ks d n o h =
+tables_bound tables schema t ks d n o names h =
     let own = created_table schema t.name (elements_of tables 0 t.columns ks) in
     let named = subst (λ cs. AreNamed cs 0 t.columns) (sym (names_again tables 0 t.columns ks)) n in
     ap (λ cs. plan.Schema (CreateTable (record { name = t.name; columns = cs }) (map (bound_place schema own) (enumerate_from 1 (written_constraints (elements_of tables 0 t.columns ks)))))) (columns_again tables 0 t.columns ks d)
-    ∙ ap (λ xs. plan.Schema (CreateTable t xs)) (numbered schema own 1 (written_constraints (elements_of tables 0 t.columns ks)) ks (whole tables schema own 0 t.columns ks named o h))
+    ∙ ap (λ xs. plan.Schema (CreateTable t xs)) (numbered schema own 1 (written_constraints (elements_of tables 0 t.columns ks)) ks (whole tables schema own 0 t.columns ks named o h) names)

@@ -14,7 +14,7 @@ use Rattle.iv_syntax.specs.Trees.{group, signed, product, sum, enclosed, negated
 use Rattle.iv_parse_terms.specs.Expressions.{Formed, expression, term, factor, primary}
 use Rattle.iv_parse_terms.specs.Conditions.{ConditionFormed, condition, conjunction, negation, test}
 use Rattle.iv_resolution.specs.Scopes.{NamedRange}
-use Rattle.iv_restate.specs.Parentheses.{is_sum, is_product, is_atom, is_zero, as_term, as_factor, as_conjunction, as_negation, as_test, summed, difference, multiplied, denied, all_of, one_of}
+use Rattle.iv_restate.specs.Parentheses.{is_sum, is_product, is_atom, is_zero, takes_sign, as_term, as_factor, as_conjunction, as_negation, as_test, summed, difference, multiplied, denied, all_of, one_of}
 use Rattle.iv_restate.specs.Trees.{Naming, literal_of, least_integer, column_or_null, column_named, variable_named, expression_of, condition_of, not_of, null_operand, exists_of, is_always, inner_range, source_name, alias_of}
 
 -- ---- expressions
@@ -39,26 +39,26 @@ factor_formed (signed s a) h = h
 factor_formed (product a b) h = h
 factor_formed (sum s a b) h = h
 
-atom_formed : (e : Expression) → is_atom e ≡ true → Formed primary e
-atom_formed (tree.Number n) h = tt
-atom_formed (tree.Text t) h = tt
-atom_formed tree.Null h = tt
-atom_formed (tree.Column c) h = tt
-atom_formed (group a) h = absurd (let e : false ≡ true = h in cc)
-atom_formed (signed s a) h = absurd (let e : false ≡ true = h in cc)
-atom_formed (product a b) h = absurd (let e : false ≡ true = h in cc)
-atom_formed (sum s a b) h = absurd (let e : false ≡ true = h in cc)
+sign_operand_formed : (e : Expression) → takes_sign e ≡ true → Formed expression e → Formed primary (as_term e)
+sign_operand_formed (tree.Number n) t h = tt
+sign_operand_formed (tree.Text t) u h = tt
+sign_operand_formed tree.Null t h = tt
+sign_operand_formed (tree.Column c) t h = tt
+sign_operand_formed (group a) t h = absurd (let e : false ≡ true = t in cc)
+sign_operand_formed (signed s a) t h = absurd (let e : false ≡ true = t in cc)
+sign_operand_formed (product a b) t h = absurd (let e : false ≡ true = t in cc)
+sign_operand_formed (sum s a b) t h = h
 
 summed_formed : (s : Sign) (a b : Expression) → Formed expression a → Formed expression b → Formed expression (summed s a b)
 summed_formed s a b h i = (tt, h, term_formed b i)
 
-difference_by : (a b : Expression) (z : Bool) → (z ≡ true → is_atom b ≡ true) → Formed expression a → Formed expression b
-    → Formed expression (if z then signed sign.Minus b else summed sign.Minus a b)
-difference_by a b true z h i = (tt, atom_formed b (z refl))
+difference_by : (a b : Expression) (z : Bool) → (z ≡ true → takes_sign b ≡ true) → Formed expression a → Formed expression b
+    → Formed expression (if z then signed sign.Minus (as_term b) else summed sign.Minus a b)
+difference_by a b true z h i = (tt, sign_operand_formed b (z refl) i)
 difference_by a b false z h i = summed_formed sign.Minus a b h i
 
 difference_formed : (a b : Expression) → Formed expression a → Formed expression b → Formed expression (difference a b)
-difference_formed a b = difference_by a b (is_zero a && is_atom b) (λ h. (and_parts (is_zero a) (is_atom b) h).1)
+difference_formed a b = difference_by a b (is_zero a && takes_sign b) (λ h. (and_parts (is_zero a) (takes_sign b) h).1)
 
 multiplied_formed : (a b : Expression) → Formed expression a → Formed expression b → Formed expression (multiplied a b)
 multiplied_formed a b h i = (tt, term_formed a h, factor_formed b i)

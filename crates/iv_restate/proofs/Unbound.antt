@@ -19,7 +19,7 @@ use Rattle.iv_catalogue.proofs.TriggerNumbers.{found}
 use Rattle.iv_resolution.specs.declared.origin.Origin.TheVariants.{Rows}
 use Rattle.iv_resolution.specs.Scopes.{NamedColumn, NamedRange, Found, Names, column_meant, number, own_range}
 use Rattle.iv_resolution.specs.Terms.{integer_of, bound_column, bound_expression, bound_condition, bound_sum}
-use Rattle.iv_restate.specs.Parentheses.{is_sum, is_product, is_atom, is_zero, is_negated, is_both, is_either, as_term, as_factor, as_conjunction, as_negation, as_test, summed, difference, multiplied, denied, all_of, one_of}
+use Rattle.iv_restate.specs.Parentheses.{is_sum, is_product, is_zero, takes_sign, is_negated, is_both, is_either, as_term, as_factor, as_conjunction, as_negation, as_test, summed, difference, multiplied, denied, all_of, one_of}
 use Rattle.iv_restate.specs.Trees.{Naming, no_naming, check_range, check_of, literal_of, column_named, column_or_null, expression_of, condition_of, null_operand, not_of}
 use Rattle.iv_restate.specs.Laws.{IsLiteral, IsColumn, IsOver, IsCheckOver, MeansCheck, CheckIsItself}
 
@@ -54,13 +54,15 @@ zero_bound ranges (product a b) h = absurd (let e : false ≡ true = h in cc)
 zero_bound ranges (sum s a b) h = absurd (let e : false ≡ true = h in cc)
 
 difference_by : (ranges : List NamedRange) (a b : Expression) (z : Bool) → (z ≡ true → is_zero a ≡ true)
-    → bound_expression ranges (if z then signed sign.Minus b else summed sign.Minus a b) ≡ minus (bound_expression ranges a) (bound_expression ranges b)
-difference_by ranges a b true h = ap (λ x. minus x (bound_expression ranges b)) (sym (zero_bound ranges a (h refl)))
+    → bound_expression ranges (if z then signed sign.Minus (as_term b) else summed sign.Minus a b) ≡ minus (bound_expression ranges a) (bound_expression ranges b)
+difference_by ranges a b true h =
+    ap (minus (expr.Literal (value.Int (pos 0)))) (grouped_bound ranges b (is_sum b))
+    ∙ ap (λ x. minus x (bound_expression ranges b)) (sym (zero_bound ranges a (h refl)))
 difference_by ranges a b false h = summed_bound ranges sign.Minus a b
 
 difference_bound : (ranges : List NamedRange) (a b : Expression)
     → bound_expression ranges (difference a b) ≡ minus (bound_expression ranges a) (bound_expression ranges b)
-difference_bound ranges a b = difference_by ranges a b (is_zero a && is_atom b) (λ h. (and_parts (is_zero a) (is_atom b) h).0)
+difference_bound ranges a b = difference_by ranges a b (is_zero a && takes_sign b) (λ h. (and_parts (is_zero a) (takes_sign b) h).0)
 
 multiplied_bound : (ranges : List NamedRange) (a b : Expression)
     → bound_expression ranges (multiplied a b) ≡ times (bound_expression ranges a) (bound_expression ranges b)

@@ -140,17 +140,19 @@ constraint_bound tables schema names own k written h e =
 addition_by : (tables : List Table) (schema : Schema) (own : Altered) (k : Constraint) (written : TableConstraint) → IsOwn tables schema own k
     → (o : Option TableRule) → table_rule_of tables own.columns k.rule ≡ o
     → ◌≡◌ {A = Option TableConstraint} (elim o as (λ _. Option TableConstraint) [ Some r ↦ Some (with_rule k r) | None ↦ None ]) (Some written)
+    → added_name schema own (table_constraint written) ≡ k.name
     → bound_addition schema own (table_constraint written) ≡ plan.Schema (AddConstraint k)
-addition_by tables schema own k written h (Some r) found same =
-    ap (λ w. bound_addition schema own (table_constraint w)) (sym (some_is same))
+addition_by tables schema own k written h (Some r) found same named =
+    ap (λ name. plan.Schema (AddConstraint (bound_constraint schema (table_names schema) own name (table_constraint written)))) named
+    ∙ ap (λ w. plan.Schema (AddConstraint (bound_constraint schema (table_names schema) own k.name (table_constraint w)))) (sym (some_is same))
     ∙ ap (λ x. plan.Schema (AddConstraint x)) (constraint_bound tables schema (table_names schema) own k r h found) where
       some_is : ◌≡◌ {A = Option TableConstraint} (Some (with_rule k r)) (Some written) → with_rule k r ≡ written
       some_is e = cc
-addition_by tables schema own k written h None found same = absurd (none_is same) where
+addition_by tables schema own k written h None found same named = absurd (none_is same) where
   none_is : ◌≡◌ {A = Option TableConstraint} None (Some written) → ⊥
   none_is e = cc
 
 pub additions_bound : AdditionsAreThemselves
-additions_bound tables schema own k written h e =
+additions_bound tables schema own k written h e named =
     addition_by tables schema own k written h (table_rule_of tables own.columns k.rule) refl
-    (sym (ap (λ cs. elim (table_rule_of tables cs k.rule) as (λ _. Option TableConstraint) [ Some r ↦ Some (with_rule k r) | None ↦ None ]) h.columns) ∙ e)
+    (sym (ap (λ cs. elim (table_rule_of tables cs k.rule) as (λ _. Option TableConstraint) [ Some r ↦ Some (with_rule k r) | None ↦ None ]) h.columns) ∙ e) named

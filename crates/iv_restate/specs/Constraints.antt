@@ -1,6 +1,7 @@
 -- Constraints and columns of the catalogue as they are written in CREATE TABLE and ALTER TABLE ("Table constraint definition", "Column
 -- definition").
-use Rattle.std.specs.Prelude.{ℕ, suc, Bool, true, false, pos, negsuc, List, [], ◌∷◌, map, Option, Some, None, slice_get}
+use Rattle.std.specs.Prelude.{ℕ, suc, Bool, true, false, if◌then◌else◌, nat_le, pos, negsuc, List, [], ◌∷◌, length, map, Option, Some, None, slice_get}
+use Rattle.iv_syntax.specs.declared.limits.TheConstants.{LONGEST_NAME}
 use Rattle.iv_restate.specs.Types.{Value, ConstraintMode, ConstraintTime, MatchType, ReferentialAction, References, Literal, ColumnConstraint, ColumnDefinition, ColumnRule, TableRule, TableConstraint, Column, Table, ForeignKey, Rule, Constraint}
 use Rattle.iv_restate.specs.Types.value
 use Rattle.iv_restate.specs.Types.mode
@@ -72,8 +73,12 @@ column_rule_of tables columns (rule.ForeignKey k) = column_rule.References (refe
 
 -- ---- constraints, each with its name
 
+-- A generated name may be longer than a name of the language. It is left out, since it is generated again at the same place.
+abbrev pub written_name : List ℕ → Option (List ℕ)
+written_name name = if nat_le (length name) LONGEST_NAME then Some name else None
+
 abbrev pub with_rule : Constraint → TableRule → TableConstraint
-with_rule k r = record { name = Some k.name; rule = r; time = time_of k.deferrable k.initially }
+with_rule k r = record { name = written_name k.name; rule = r; time = time_of k.deferrable k.initially }
 
 abbrev pub table_constraint_of : List Table → Constraint → Option TableConstraint
 table_constraint_of tables k =
@@ -81,7 +86,7 @@ table_constraint_of tables k =
 
 abbrev pub column_constraint_of : List Table → Constraint → ColumnConstraint
 column_constraint_of tables k = record {
-  name = Some k.name;
+  name = written_name k.name;
   rule = column_rule_of tables (columns_at tables k.table) k.rule;
   time = time_of k.deferrable k.initially;
 }

@@ -39,9 +39,13 @@ as_factor e = if is_sum e || is_product e then group e else e
 abbrev pub summed : Sign → Expression → Expression → Expression
 summed s a b = sum s a (as_term b)
 
--- 0 minus a number, a text, NULL or a column is that with a sign
+-- A sign stands before a number, a text, NULL, a column, or a sum in parentheses. Before anything else it could make a tree deeper than it was.
+abbrev pub takes_sign : Expression → Bool
+takes_sign e = is_atom e || is_sum e
+
+-- 0 minus an operand that takes a sign is that with a sign
 abbrev pub difference : Expression → Expression → Expression
-difference a b = if is_zero a && is_atom b then signed sign.Minus b else summed sign.Minus a b
+difference a b = if is_zero a && takes_sign b then signed sign.Minus (as_term b) else summed sign.Minus a b
 
 abbrev pub multiplied : Expression → Expression → Expression
 multiplied a b = product (as_term a) (as_factor b)

@@ -1,20 +1,21 @@
 -- Which columns and constraints a catalogue can have, and what they mean once they are written.
-use Rattle.std.specs.Prelude.{◌≡◌, ◌≤◌, ℕ, suc, ◌+◌, pos, negsuc, List, [], ◌∷◌, Some}
+use Rattle.std.specs.Prelude.{◌≡◌, ◌≤◌, ℕ, suc, ◌+◌, pos, negsuc, List, [], ◌∷◌, Some, unwrap_or}
 use Rattle.iv_syntax.specs.declared.limits.TheConstants.{GREATEST_INTEGER}
 use Rattle.iv_restate.specs.Types.{Value, Kind, Column, Table, ForeignKey, Rule, Constraint, ColumnConstraint, TableConstraint}
 use Rattle.iv_restate.specs.Types.value
 use Rattle.iv_restate.specs.Types.kind
 use Rattle.iv_restate.specs.Types.rule
 use Rattle.iv_catalogue.specs.Catalogues.{Schema}
+use Rattle.iv_catalogue.specs.Names.{generated_name}
 use Rattle.iv_resolution.specs.Types.plan
 use Rattle.iv_resolution.specs.Types.schema.{CreateTable, AddConstraint}
 use Rattle.iv_resolution.specs.Scopes.{NamedColumn, named_columns, place_of}
 use Rattle.iv_resolution.specs.Constraints.{Altered, Referenced, referenced, table_constraint}
 use Rattle.iv_resolution.specs.Bound.{bound_column_definition, bound_addition, bound_table}
-use Rattle.iv_resolution.specs.Tables.{created_table}
+use Rattle.iv_resolution.specs.Tables.{added_name, created_table}
 use Rattle.iv_restate.specs.Statements.{before_null, from_null, up_to_null, after_null, elements_of}
 use Rattle.iv_restate.specs.Laws.{IsColumn, IsCheckOver}
-use Rattle.iv_restate.specs.Constraints.{columns_at, table_name_at, table_constraint_of, definition_of}
+use Rattle.iv_restate.specs.Constraints.{columns_at, table_name_at, table_constraint_of, definition_of, written_name}
 
 -- ---- columns
 
@@ -67,10 +68,10 @@ abbrev pub ColumnsAreThemselves : Type 0
 ColumnsAreThemselves = (c : Column) (constraints : List ColumnConstraint) → IsKind c.kind → IsDefault c.default
     → bound_column_definition (definition_of c constraints) ≡ c
 
--- ALTER TABLE adds just that constraint
+-- ALTER TABLE adds just that constraint; a name that isn't written is the one that it generates
 abbrev pub AdditionsAreThemselves : Type 0
 AdditionsAreThemselves = (tables : List Table) (schema : Schema) (own : Altered) (k : Constraint) (written : TableConstraint) → IsOwn tables schema own k
-    → table_constraint_of tables k ≡ Some written → bound_addition schema own (table_constraint written) ≡ plan.Schema (AddConstraint k)
+    → table_constraint_of tables k ≡ Some written → added_name schema own (table_constraint written) ≡ k.name → bound_addition schema own (table_constraint written) ≡ plan.Schema (AddConstraint k)
 
 -- ---- CREATE TABLE
 
@@ -113,9 +114,15 @@ abbrev pub AllOwn : List Table → Schema → Altered → List Constraint → Ty
 AllOwn tables schema own [] = Unit {0}
 AllOwn tables schema own (k ∷ constraints) = IsOwn tables schema own k × AllOwn tables schema own constraints
 
+-- Each name is written, or is the one that is generated at this place and the ones after it.
+abbrev pub AreNameable : List ℕ → ℕ → List Constraint → Type 0
+AreNameable table place [] = Unit {0}
+AreNameable table place (k ∷ constraints) =
+    (unwrap_or (written_name k.name) (generated_name table place) ≡ k.name) × AreNameable table (place + 1) constraints
+
 -- CREATE TABLE creates just that table and these constraints, in their order
 abbrev pub TablesAreThemselves : Type 0
 TablesAreThemselves = (tables : List Table) (schema : Schema) (t : Table) (constraints : List Constraint)
-    → AreDefined t.columns → AreNamed (named_columns t.columns) 0 t.columns → AreInOrder 0 t.columns constraints
+    → AreDefined t.columns → AreNamed (named_columns t.columns) 0 t.columns → AreInOrder 0 t.columns constraints → AreNameable t.name 1 constraints
     → AllOwn tables schema (created_table schema t.name (elements_of tables 0 t.columns constraints)) constraints
     → bound_table schema t.name (elements_of tables 0 t.columns constraints) ≡ plan.Schema (CreateTable t constraints)

@@ -4,15 +4,15 @@ ghost use Rattle.iv_resolution.specs.Scopes.{named_columns};
 ghost use Rattle.iv_resolution.specs.Constraints.{name_at};
 ghost use Rattle.iv_catalogue.specs.declared.constraint.Rule.TheVariants as rule;
 ghost use Rattle.iv_restate.specs.Constraints.{column_constraint_of, column_rule_of, columns_at, names_at, references_of, table_constraint_of};
-ghost use Rattle.iv_restate.specs.Constraints.{table_name_at, table_rule_of, time_of, written_action, written_match};
+ghost use Rattle.iv_restate.specs.Constraints.{table_name_at, table_rule_of, time_of, written_action, written_match, written_name};
 
 use crate::check::check_condition;
 use crate::scope::name_of;
 use iv_catalogue::{Column, Constraint, ForeignKey, Rule, Table};
 use iv_expr::TableId;
 use iv_syntax::{
-    ColumnConstraint, ColumnRule, ConstraintMode, ConstraintTime, MatchType, Name, References,
-    ReferentialAction, TableConstraint, TableRule,
+    ColumnConstraint, ColumnRule, ConstraintMode, ConstraintTime, LONGEST_NAME, MatchType, Name,
+    References, ReferentialAction, TableConstraint, TableRule,
 };
 use sqlite_items::Items;
 use std::alloc::{AllocError, Global};
@@ -173,6 +173,16 @@ fn column_rule_of(
     }
 }
 
+// The name of a constraint; none if it is longer than a name of the language, as a generated one may be.
+fn written_name(name: &Name) -> Result<Option<Name>, AllocError>
+    ensures { IfOk result (λ written. written ≡ written_name name.now) }
+{
+    if name.as_str().len() > LONGEST_NAME {
+        return Ok(None);
+    }
+    Ok(Some(name.clone()?))
+}
+
 /// A constraint as one of a table, with its name, as in ALTER TABLE; none of a NOT NULL, which has no such form.
 pub fn table_constraint_of(
     alloc: Global,
@@ -182,12 +192,12 @@ pub fn table_constraint_of(
     ensures { IfOk result (λ k. k ≡ table_constraint_of tables.now constraint.now) }
 {
     let columns = columns_at(tables, constraint.table);
-    let name = constraint.name.clone()?;
+    let name = written_name(&constraint.name)?;
     let Some(rule) = table_rule_of(alloc, tables, columns, &constraint.rule)? else {
         return Ok(None);
     };
     Ok(Some(TableConstraint {
-        name: Some(name),
+        name,
         rule,
         time: time_of(constraint.deferrable, constraint.initially),
     }))
@@ -202,9 +212,9 @@ pub fn column_constraint_of(
     ensures { IfOk result (λ k. k ≡ column_constraint_of tables.now constraint.now) }
 {
     let columns = columns_at(tables, constraint.table);
-    let name = constraint.name.clone()?;
+    let name = written_name(&constraint.name)?;
     Ok(ColumnConstraint {
-        name: Some(name),
+        name,
         rule: column_rule_of(alloc, tables, columns, &constraint.rule)?,
         time: time_of(constraint.deferrable, constraint.initially),
     })

@@ -2,7 +2,7 @@
 ghost use Rattle.std.specs.Prelude.{◌≡◌, ◌&&◌, ◌||◌, Ok, IfOk};
 ghost use Rattle.iv_syntax.specs.Trees.{both, either, enclosed, group, negated, product, signed, sum};
 ghost use Rattle.iv_restate.specs.Parentheses.{all_of, as_conjunction, as_factor, as_negation, as_term, as_test, denied, difference};
-ghost use Rattle.iv_restate.specs.Parentheses.{is_atom, is_both, is_either, is_negated, is_product, is_sum, is_zero, multiplied, one_of, summed};
+ghost use Rattle.iv_restate.specs.Parentheses.{is_atom, is_both, is_either, is_negated, is_product, is_sum, is_zero, multiplied, one_of, summed, takes_sign};
 
 use iv_expr::boxes;
 use iv_syntax::{Condition, Expression, Sign};
@@ -139,13 +139,21 @@ pub fn summed(
     sum(alloc, sign, a, b)
 }
 
-/// A difference; 0 minus a number, a text, NULL or a column is that with a sign.
+// Whether a sign before it, and before its parentheses, makes no tree deeper than `0 -` does.
+fn takes_sign(expression: &Expression) -> bool
+    ensures { result ≡ takes_sign expression.now }
+{
+    is_atom(expression) || is_sum(expression)
+}
+
+/// A difference; 0 minus a number, a text, NULL, a column or a sum is that with a sign.
 pub fn difference(alloc: Global, a: Expression, b: Expression) -> Result<Expression, AllocError>
     ensures { IfOk result (λ e. e ≡ difference a b) }
 {
-    if is_zero(&a) && is_atom(&b) {
+    if is_zero(&a) && takes_sign(&b) {
         drop(a);
-        return signed(alloc, Sign::Minus, b);
+        let operand = as_term(alloc, b)?;
+        return signed(alloc, Sign::Minus, operand);
     }
     summed(alloc, Sign::Minus, a, b)
 }

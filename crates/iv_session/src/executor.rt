@@ -2,11 +2,13 @@
 
 use crate::session::Session;
 use iv_account::{Account, Entry};
-use iv_catalogue::{Catalogue, Fault};
+use iv_catalogue::{Catalogue, Cause, Fault};
+use iv_expr::{Row, TableId};
 use iv_machine::Limits;
 use iv_step::{Executor, Outcome};
 use iv_store::Keeper;
 use iv_syntax::Statement;
+use sqlite_items::Items;
 use std::alloc::{AllocError, Global};
 
 impl<K: Keeper + Drop> Executor for Session<K> {
@@ -42,6 +44,10 @@ impl<K: Keeper + Drop> Executor for Session<K> {
 
     fn in_transaction(&self) -> bool {
         self.in_transaction()
+    }
+
+    fn rows(&self, table: TableId) -> Result<Items<Row>, Cause> {
+        self.rows(table)
     }
 
     fn pending(&self) -> Result<Vec<Fault>, AllocError> {

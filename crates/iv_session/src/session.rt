@@ -1,6 +1,7 @@
 //! The calls that need no resolution.
-ghost use Rattle.std.specs.Prelude.{◌≡◌, ◌≢◌, ◌-◌, ◌^◌, [], length, min, true, false, is_some, IfOk, OnErr, OnOk, option_copied};
-ghost use Rattle.iv_catalogue.specs.Refusals.{is_memory};
+ghost use Rattle.std.specs.Prelude.{◌≡◌, ◌≢◌, ◌-◌, ◌^◌, [], length, min, true, false, is_some, IfErr, IfOk, OnErr, OnOk, option_copied};
+ghost use Rattle.iv_expr.specs.Scopes.{contents, table_rows};
+ghost use Rattle.iv_catalogue.specs.Refusals.{is_memory, is_memory_cause};
 ghost use Rattle.iv_machine.specs.declared.database.Which.TheVariants.{All, Deferred};
 ghost use Rattle.iv_machine.specs.Databases.{is_chosen, row_at, scan};
 ghost use Rattle.iv_machine.specs.Machine.{commit_outcome, empty_state, inside, is_open, no_work, outcome_unless, rollback_outcome};
@@ -14,13 +15,14 @@ ghost use Rattle.iv_state.specs.Performing.{Performs};
 ghost use Rattle.iv_session.specs.FewLookups.{FewLookups};
 
 use iv_account::{Account, Entry};
-use iv_catalogue::{Catalogue, Fault};
-use iv_expr::StoredRow;
+use iv_catalogue::{Catalogue, Cause, Fault};
+use iv_expr::{Row, StoredRow, TableId};
 use iv_machine::Limits;
 use iv_state::{SessionState, Work};
 use iv_step::Outcome;
 use iv_store::Keeper;
 use iv_syntax::ConstraintMode;
+use sqlite_items::Items;
 use std::alloc::{AllocError, Global};
 use std::marker::Model;
 
@@ -132,6 +134,16 @@ impl<K: Keeper + Drop> Session<K> {
         ensures { option_copied result ≡ row_at self.now.state.database.rows number }
     {
         self.state.row(number)
+    }
+
+    /// The rows of a table, by number; none if there is no such table. They share their values with the session. It
+    /// takes time in proportion to them.
+    pub fn rows(&self, table: TableId) -> Result<Items<Row>, Cause>
+        ensures rows { IfOk result (λ rows. rows
+            ≡ contents (table_rows self.now.state.database.rows table)) }
+        ensures memory { IfErr result (λ cause. is_memory_cause cause ≡ true) }
+    {
+        self.state.rows(table)
     }
 
     /// Whether a transaction is open.

@@ -33,8 +33,8 @@ pub use places::{SourceText, StatementPlace, statement_place};
 pub use row_buffers::TakenRows;
 pub use rows::{copy_rows_from, copy_rows_of, rows_of, value_at};
 pub use status::{
-    CLOSED, IN_TRANSACTION, LIMITS, NO_MEMORY, NO_TEMPLATE, NOT_UTF8, NOTHING, OK, OPEN, TOO_LONG,
-    WRONG_COUNT,
+    CLOSED, IN_TRANSACTION, LIMITS, NO_MEMORY, NO_TEMPLATE, NOT_RESTORED, NOT_UTF8, NOTHING, OK,
+    OPEN, TOO_LONG, WRONG_COUNT,
 };
 pub use stored_rows::{ShownStoredRow, stored_row, stored_row_shown, stored_value};
 pub use tables::{

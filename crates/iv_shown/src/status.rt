@@ -34,3 +34,6 @@ pub const NO_TEMPLATE: u32 = 10;
 
 /// A transaction is open.
 pub const IN_TRANSACTION: u32 = 11;
+
+/// What the dump makes isn't the database.
+pub const NOT_RESTORED: u32 = 12;

@@ -1,3 +1,4 @@
+pub mod AllRows
 pub mod TakenOut
 pub mod Saves
 pub mod Releasing

@@ -1,6 +1,7 @@
 //! What executes statements as `step` says.
-ghost use Rattle.std.specs.Prelude.{◌≡◌, Bool, true, false, IfOk, is_some};
-ghost use Rattle.iv_catalogue.specs.Refusals.{is_memory};
+ghost use Rattle.std.specs.Prelude.{◌≡◌, Bool, true, false, IfErr, IfOk, is_some};
+ghost use Rattle.iv_expr.specs.Scopes.{contents, table_rows};
+ghost use Rattle.iv_catalogue.specs.Refusals.{is_memory, is_memory_cause};
 ghost use Rattle.iv_machine.specs.Machine.{State, empty_state};
 ghost use Rattle.iv_account.specs.Telling as telling;
 ghost use Rattle.iv_step.specs.Pending.{FaultsRise, pending, violations_told};
@@ -10,8 +11,10 @@ ghost use Rattle.iv_step.specs.Telling.{Tells};
 
 use iv_account::{Account, Entry};
 use iv_catalogue::{Catalogue, Cause, Fault, Refusal};
+use iv_expr::{Row, TableId};
 use iv_machine::{Answer, Limits};
 use iv_syntax::Statement;
+use sqlite_items::Items;
 use std::alloc::{AllocError, Global};
 
 /// What a statement answers.
@@ -70,6 +73,11 @@ pub trait Executor {
     /// Whether a transaction is open.
     fn in_transaction(&self) -> bool
         ensures { result ≡ is_some (state self.now).start };
+
+    /// The rows of a table, by number. They share their values with the database.
+    fn rows(&self, table: TableId) -> Result<Items<Row>, Cause>
+        ensures rows { IfOk result (λ rows. rows ≡ contents (table_rows (state self.now).database.rows table)) }
+        ensures memory { IfErr result (λ cause. is_memory_cause cause ≡ true) };
 
     /// The violations of deferred constraints.
     fn pending(&self) -> Result<Vec<Fault>, AllocError>

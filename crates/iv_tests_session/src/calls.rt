@@ -5,8 +5,10 @@ use crate::shown::{
     compare, show, show_account, show_catalogue, show_fault, show_modes, show_number, show_outcome,
     show_outcomes, show_row, show_work,
 };
+use iv_expr::TableId;
 use iv_machine::Limits;
 use iv_parse::script;
+use iv_restore::{DumpRefusal, checked_dump};
 use iv_session::{Outcome, Session};
 use iv_store::Keeper;
 use iv_syntax::Statement;
@@ -53,6 +55,10 @@ pub enum Call {
     Row(u64),
     /// The mode of each constraint.
     Modes,
+    /// How many rows the table at this place has.
+    Rows(u32),
+    /// The scripts of a dump, or why there is none.
+    Dump,
 }
 
 // Which outcomes are shown.
@@ -167,6 +173,39 @@ fn show_state<K: Keeper + Drop>(rt: &impl Abort, session: &Session<K>, shown: &m
     show_work(rt, session.work(), shown)
 }
 
+fn show_rows<K: Keeper + Drop>(
+    rt: &impl Abort,
+    session: &Session<K>,
+    place: u32,
+    shown: &mut String,
+) {
+    match session.rows(TableId::new(place)) {
+        Ok(rows) => {
+            show_number(rt, "", rows.as_slice().len() as u64, " rows; ", shown);
+            drop(rows);
+        }
+        Err(_) => show(rt, "no rows; ", shown),
+    }
+}
+
+fn show_dump<K: Keeper + Drop>(
+    rt: &impl Abort,
+    alloc: Global,
+    session: &Session<K>,
+    shown: &mut String,
+) {
+    match checked_dump(alloc, session) {
+        Ok(scripts) => {
+            for text in scripts.as_slice() {
+                show(rt, text.as_str(), shown);
+            }
+            drop(scripts);
+        }
+        Err(DumpRefusal::InTransaction) => show(rt, "open; ", shown),
+        Err(_) => show(rt, "no dump; ", shown),
+    }
+}
+
 fn make_call<K: Keeper + Drop>(
     rt: &impl Abort,
     alloc: Global,
@@ -201,6 +240,8 @@ fn make_call<K: Keeper + Drop>(
         Call::Catalogue => show_catalogue(rt, session.catalogue(), shown),
         Call::Row(number) => show_row(rt, session.row(*number), shown),
         Call::Modes => show_modes(rt, session.modes(), shown),
+        Call::Rows(place) => show_rows(rt, session, *place, shown),
+        Call::Dump => show_dump(rt, alloc, session, shown),
     }
 }
 

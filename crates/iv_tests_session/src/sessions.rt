@@ -27,6 +27,12 @@ const SET_IMMEDIATE: &str =
 const TWO_ROWS: &str =
     "CREATE TABLE t (a INT); CREATE TABLE u (a INT, b INT); INSERT INTO t VALUES (1); INSERT INTO u VALUES (2, 3); DELETE FROM t;";
 
+const TO_DUMP: &str =
+    "CREATE TABLE t (a INT, b VARCHAR(9), CHECK (-(a + 1) * 2 < 3)); INSERT INTO t VALUES (7, 'x'), (-1, ''''); COMMIT; CREATE TRIGGER g BEFORE INSERT ON t REFERENCING NEW AS n FOR EACH ROW WHEN (n.a = 0) SET n.a = 1;";
+
+const DUMPED: &str =
+    "CREATE TABLE T (\n    A INTEGER,\n    B VARCHAR(9),\n    CONSTRAINT T_C1 CHECK (- (A + 1) * 2 < 3)\n);\nINSERT INTO T VALUES (7, 'x'),\n    (- 1, '''');\nCOMMIT;\nCREATE TRIGGER G BEFORE INSERT ON T REFERENCING NEW AS R_NEW FOR EACH ROW WHEN (R_NEW.A = 0) SET R_NEW.A = 1;\n";
+
 // P's key and POS are the constraint at place 0, FK and BIG the one at place 1.
 #[test]
 fn pending_is_shown_after_each_statement(rt: HostRuntime) {
@@ -110,4 +116,25 @@ fn rows_are_read_by_their_numbers(rt: HostRuntime) {
     let wanted = "no row; no row; table 1 with 2; no row; ";
     shows::<PlainStore>(&rt, rt.alloc(), TWO_ROWS, &CALLS, wanted);
     shows::<IndexStore>(&rt, rt.alloc(), TWO_ROWS, &CALLS, wanted)
+}
+
+#[test]
+fn rows_of_a_table_are_counted(rt: HostRuntime) {
+    static CALLS: [Call; 4] = [Call::Run, Call::Rows(0), Call::Rows(1), Call::Rows(2)];
+    let wanted = "0 rows; 1 rows; 0 rows; ";
+    shows::<PlainStore>(&rt, rt.alloc(), TWO_ROWS, &CALLS, wanted);
+    shows::<IndexStore>(&rt, rt.alloc(), TWO_ROWS, &CALLS, wanted)
+}
+
+#[test]
+fn a_database_is_dumped(rt: HostRuntime) {
+    static CALLS: [Call; 2] = [Call::Run, Call::Dump];
+    shows::<PlainStore>(&rt, rt.alloc(), TO_DUMP, &CALLS, DUMPED);
+    shows::<IndexStore>(&rt, rt.alloc(), TO_DUMP, &CALLS, DUMPED)
+}
+
+#[test]
+fn none_is_dumped_in_a_transaction(rt: HostRuntime) {
+    static CALLS: [Call; 2] = [Call::Run, Call::Dump];
+    shows::<IndexStore>(&rt, rt.alloc(), ONE_ROW_PENDING, &CALLS, "open; ")
 }

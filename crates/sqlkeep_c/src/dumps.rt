@@ -1,7 +1,8 @@
 //! The database as scripts.
-ghost use Rattle.std.specs.Prelude.{◌≡◌, ◌≢◌, false, length, slice_get, IfSome};
+ghost use Rattle.std.specs.Prelude.{◌≡◌, ◌≢◌, length, slice_get, IfSome};
 ghost use Rattle.iv_dump.specs.Dumps.{AreDump};
 ghost use Rattle.iv_dump.specs.Scripts.{AreShort};
+ghost use Rattle.iv_restore.specs.Restoring.{Restores};
 ghost use Rattle.iv_shown.specs.Copying.{Copies};
 ghost use Rattle.iv_connection.specs.Dumps.{scripts_of};
 ghost use Rattle.iv_shown.specs.Statuses.{found};
@@ -10,25 +11,22 @@ ghost use Rattle.sqlkeep_c.specs.Statuses.{IsStatusOfDump, status_by};
 
 use crate::handle::{Handle, put, take};
 use iv_connection::{dump_script, keep_dump};
-use iv_shown::{CLOSED, IN_TRANSACTION, OK, copied_if_there};
+use iv_shown::{CLOSED, OK, copied_if_there};
 use std::alloc::Global;
 
-/// Writes the database as scripts that make it again, and keeps them. The state of the session stays.
+/// Writes the database as scripts that make it again, and keeps them. They were run in a database of their own, which
+/// was compared with this one. Nothing else changes.
 #[unsafe(no_mangle)]
 pub extern "C" fn sqlkeep_dump(alloc: Global, handle: &mut Handle, scripts: &mut usize) -> u32
     ensures dump { Called handle.old.kept.behind handle.new.kept.behind (λ old new. result ≡ OK
         → (scripts.new ≡ length new.dump.items) × AreShort (scripts_of new)) }
     ensures statements { Called handle.old.kept.behind handle.new.kept.behind (λ old new. result ≡ OK
         → AreDump old.session.state (scripts_of new)) }
-    ensures state { Called handle.old.kept.behind handle.new.kept.behind (λ old new.
-        new.session.state ≡ old.session.state) }
+    ensures restores { Called handle.old.kept.behind handle.new.kept.behind (λ old new. result ≡ OK
+        → Restores old.session.state (scripts_of new)) }
     ensures rest { Called handle.old.kept.behind handle.new.kept.behind (λ old new.
-        new ≡ record old { session = new.session; dump = new.dump; is_told = new.is_told }) }
-    ensures untold { Called handle.old.kept.behind handle.new.kept.behind (λ old new.
-        result ≢ IN_TRANSACTION → new.is_told ≡ false) }
-    ensures last { Called handle.old.kept.behind handle.new.kept.behind (λ old new.
-        result ≢ OK → new.dump ≡ old.dump) }
-    ensures in_transaction { result ≡ IN_TRANSACTION → handle.new.kept.behind ≡ handle.old.kept.behind }
+        new ≡ record old { dump = new.dump }) }
+    ensures kept { result ≢ OK → handle.new.kept.behind ≡ handle.old.kept.behind }
     ensures others { result ≢ OK → scripts.new ≡ scripts.old }
     ensures status { IsStatusOfDump handle.old.kept.behind result }
 {

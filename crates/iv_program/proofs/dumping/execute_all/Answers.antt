@@ -16,10 +16,10 @@ loop-statement-preserved g c =
     let n : length c.loop-statement.rest.now ≡ length c.in-Some.others.now + 1 = grind (arith, common_steps, e) in
     record {
       counted = omega (arith, n, c.loop-statement.invariant.counted);
-      few = omega (arith, c.loop-statement.invariant.few, c.execute_one-refused.ensures.small);
-      onward = onward_more (g.X.Executor.state c.args.database.now) (g.X.Executor.state c.loop-statement.database) (g.X.Executor.state c.execute_one-refused.new.database)
-          c.args.statements.now c.loop-statement.rest.now c.in-Some.others.now c.in-Some.statement.now c.loop-statement.refused c.execute_one-refused.result
-          c.loop-statement.invariant.onward e c.execute_one-refused.ensures.done;
+      few = omega (arith, c.loop-statement.invariant.few, c.in_ok-refused.ensures.small);
+      onward = onward_more (g.X.Executor.state c.args.database.now) (g.X.Executor.state c.loop-statement.database) (g.X.Executor.state c.execute_one.new.database)
+          c.args.statements.now c.loop-statement.rest.now c.in-Some.others.now c.in-Some.statement.now c.loop-statement.refused c.in_ok-refused.field-0
+          c.loop-statement.invariant.onward e (c.in_ok-refused.ensures.state, c.in_ok-refused.ensures.answer);
     }
 
 pub returns : goal.returns
@@ -28,4 +28,5 @@ returns g c =
     record {
       ran = onward_end (g.X.Executor.state c.args.database.now) (g.X.Executor.state c.loop-statement.database) c.args.statements.now c.loop-statement.rest.now c.loop-statement.refused
           c.loop-statement.invariant.onward e;
+      stop = tt {0};
     }

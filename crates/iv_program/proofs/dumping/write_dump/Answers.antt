@@ -9,6 +9,7 @@ returns-in-Ok-written-clause-dumped g c = record {
   scripts = map string_bytes c.in-Ok.scripts.items;
   short = c.in-Ok.ensures.short;
   dump = c.in-Ok.ensures.statements;
+  restores = c.in-Ok.ensures.restores;
   appended = subst (λ (bs : List ℕ). Appends (g.W.Sink.state c.args.writer.now).contents (g.W.Sink.state c.write_scripts-written.new.writer).contents bs)
       (ap (flat_map string_bytes) c.as_slice.ensures.value ∙ joined_texts string_bytes c.in-Ok.scripts.items) c.in-Ok-written.ensures.0;
 }
