@@ -3,7 +3,7 @@
 
   tests/handed_out.py --program PATH
 
-PATH is the program as it was linked, out/sqlkeep.linked. If dist/ was made of these sources by this kit, the two are compared byte for byte
+PATH is the program as it was linked, crates/sqlkeep/out/sqlkeep. If dist/ was made of these sources by this kit, the two are compared byte for byte
 once the linked one is stripped and has its version; if the kit is another one, all scripts run over the program in dist/. If dist/ is of
 other sources, that part is skipped. The last line is `N passed, N failed, N skipped`."""
 import argparse

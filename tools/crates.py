@@ -6,7 +6,7 @@
     crates.py build --unproved [--library] [--optimise]
                                              compiles the program or the library without proof, into out/unproved
     crates.py build --page [--unproved]      makes sqlkeep.html, sqlkeep.wasm and sqlkeep.mjs of the library, for browsers and for node
-    crates.py library                        makes out/ over what `rt ci` left: the program, and the library for C in the time of its own proof
+    crates.py library                        makes out/ over what `rt ci` left: the program that it built, and the library for C in the time of its own proof
     crates.py check CRATE.. [--above] [--edits] [--jobs N]
                                              proves these crates, and with --above those that depend on them
 
@@ -34,10 +34,11 @@ def run(crate, words):
 
 
 def put_program():
-    """Compiles the proved program into out/; whether it is there."""
-    if not programs.make():
+    """Puts the program that `rt` built into out/; whether it is there."""
+    if not programs.LINKED.exists():
         say(f"{PROGRAM}: not built")
         return False
+    os.makedirs(os.path.join(ROOT, "out"), exist_ok=True)
     builds.ready(programs.LINKED, os.path.join(ROOT, "out", PROGRAM), builds.commit())
     return True
 
@@ -49,7 +50,7 @@ def build(words):
     if not prove(below([PROGRAM], named), named, os.cpu_count() or 1):
         return 1
     say(f"{PROGRAM}: proved; compiling it")
-    if not put_program():
+    if not programs.make() or not put_program():
         return 1
     if "--dist" in words:
         builds.hand_out(programs.LINKED)

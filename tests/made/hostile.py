@@ -509,6 +509,14 @@ def explained_nulls(rows):
     return ';'.join(texts) + ';', '\n'.join(lines) + '\n'
 
 
+def refused_modes(doublings, times):
+    """Two to the power of `doublings` rows that refer to nothing, and so many tries to make their foreign key immediate."""
+    texts = ['CREATE TABLE p (k INT PRIMARY KEY)', 'CREATE TABLE t (a INT CONSTRAINT f REFERENCES p INITIALLY DEFERRED)', 'INSERT INTO t VALUES (1)']
+    texts += ['INSERT INTO t SELECT a + %d FROM t' % 2 ** n for n in range(doublings)] + ['SET CONSTRAINTS ALL IMMEDIATE'] * times
+    answers = ['ok', 'ok', 'ok 1', *['ok %d' % 2 ** n for n in range(doublings)], *['refused 13 Violation F row 1'] * times, 'end rolled back']
+    return ';'.join(texts) + ';', answered(*answers)
+
+
 def few_left(rows):
     """So many rows, of which all but each 4,000th are deleted; statements that look through those that are left, in the same transaction; then all come
     back."""
@@ -615,6 +623,7 @@ def cases():
     yield Case('an account of 60,000 rows with the key of another, in which nulls are equal', lambda: explained_nulls(60_000), words=['--explain'])
     yield Case('60,000 rows of which 15 are left, looked through 24,000 times', lambda: few_left(60_000))
     yield Case('30,000 rows that violate one constraint, the later half mended', lambda: mended(30_000))
+    yield Case('16,000 times SET CONSTRAINTS beside 65,536 pending rows', lambda: refused_modes(16, 16_000))
     yield Case('4,096 constraints', many_constraints)
     yield Case('4,032 foreign keys to one table', many_foreign_keys)
     yield Case('1,000 savepoints over 4,096 constraints', saved_with_constraints)

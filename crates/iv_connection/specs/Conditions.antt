@@ -6,6 +6,7 @@ use Rattle.iv_catalogue.specs.declared.constraint.Rule.TheVariants.{Check}
 use Rattle.iv_dump.specs.Laws.{AreNames}
 use Rattle.iv_expr.specs.declared.tree.Cond.{Cond}
 use Rattle.iv_resolution.specs.Scopes.{NamedColumn}
+use Rattle.iv_restore.specs.Conditions.{IsReadAs}
 use Rattle.iv_restate.specs.Constraints.{columns_at}
 use Rattle.iv_restate.specs.Laws.{IsCheckOver, MeansCheck}
 use Rattle.iv_restate.specs.Trees.{check_of}
@@ -38,3 +39,8 @@ SaysCheck columns c text =
 abbrev pub SaysRule : List NamedColumn → Rule → List ℕ → Type 0
 SaysRule columns (Check c) text = SaysCheck columns c text
 SaysRule columns _ text = ⊥
+
+-- Read again, as the WHERE of a SELECT of its table, the text of a CHECK means its condition. No other rule has a text.
+abbrev pub ReadsRule : Schema → ℕ → Rule → List ℕ → Type 0
+ReadsRule schema table (Check c) text = IsReadAs schema table text c
+ReadsRule schema table _ text = ⊥

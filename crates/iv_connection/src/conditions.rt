@@ -2,12 +2,14 @@
 ghost use Rattle.std.specs.Prelude.{◌≡◌, IfOk, IfSome, option_map, slice_get, string_bytes};
 ghost use Rattle.iv_resolution.specs.Scopes.{named_columns};
 ghost use Rattle.iv_restate.specs.Constraints.{columns_at};
-ghost use Rattle.iv_connection.specs.Conditions.{SaysCheck, SaysRule, check_text, constraint_condition, rule_condition};
+ghost use Rattle.iv_restore.specs.Conditions.{IsReadAs};
+ghost use Rattle.iv_connection.specs.Conditions.{ReadsRule, SaysCheck, SaysRule, check_text, constraint_condition, rule_condition};
 
 use iv_catalogue::{Catalogue, Column, Rule};
 use iv_dump::laws::checks_can_be_written;
 use iv_expr::{Cond, TableId};
 use iv_restate::check_condition;
+use iv_restore::{DumpRefusal, is_read_as};
 use iv_shown::{Connection, constraint_at};
 use iv_write::write_condition;
 use std::alloc::{AllocError, Global};
@@ -34,36 +36,74 @@ fn check_text(alloc: Global, columns: &[Column], condition: &Cond) -> Result<Str
     Ok(text?)
 }
 
+// The text, if it is read as the condition of a CHECK on this table.
+fn read_again(
+    alloc: Global,
+    catalogue: &Catalogue,
+    table: TableId,
+    condition: &Cond,
+    text: String,
+) -> Result<String, DumpRefusal>
+    ensures same { IfOk result (λ t. string_bytes t ≡ string_bytes text) }
+    ensures reads { IfOk result (λ t. IsReadAs catalogue.now table (string_bytes t) condition.now) }
+{
+    match is_read_as(alloc, catalogue, table, text.as_str(), condition) {
+        Ok(true) => Ok(text),
+        Ok(false) => {
+            drop(text);
+            Err(DumpRefusal::Differs)
+        }
+        Err(refusal) => {
+            drop(text);
+            Err(refusal)
+        }
+    }
+}
+
 fn rule_condition(
     alloc: Global,
-    columns: &[Column],
+    catalogue: &Catalogue,
+    table: TableId,
     rule: &Rule,
-) -> Result<Option<String>, AllocError>
-    ensures text { IfOk result (λ t. option_map string_bytes t ≡ rule_condition (named_columns columns.now) rule.now) }
+) -> Result<Option<String>, DumpRefusal>
+    ensures text { IfOk result (λ t. option_map string_bytes t ≡ rule_condition (columns_at catalogue.now.tables table) rule.now) }
     ensures says { IfOk result (λ t. IfSome t (λ text.
-        SaysRule (named_columns columns.now) rule.now (string_bytes text))) }
+        SaysRule (columns_at catalogue.now.tables table) rule.now (string_bytes text))) }
+    ensures reads { IfOk result (λ t. IfSome t (λ text.
+        ReadsRule catalogue.now table rule.now (string_bytes text))) }
 {
     match rule {
-        Rule::Check(condition) => Ok(Some(check_text(alloc, columns, condition)?)),
+        Rule::Check(condition) => {
+            let text = check_text(alloc, columns_of(catalogue, table), condition)?;
+            let text = read_again(alloc, catalogue, table, condition, text)?;
+            Ok(Some(text))
+        }
         _ => Ok(None),
     }
 }
 
 /// The condition of the CHECK at this place; none if there is no constraint, or one of another kind. Read as a CHECK of
-/// its table, the text means just that constraint.
+/// its table, the text means just that constraint. It was read again, as the WHERE of a SELECT of the table; if it
+/// isn't read as this condition, the answer is `Differs`.
 pub fn constraint_condition(
     alloc: Global,
     connection: &Connection,
     at: usize,
-) -> Result<Option<String>, AllocError>
+) -> Result<Option<String>, DumpRefusal>
     ensures text { IfOk result (λ t. option_map string_bytes t
         ≡ constraint_condition connection.now.session.state.schema at) }
     ensures says { IfOk result (λ t. IfSome t (λ text. IfSome (slice_get connection.now.session.state.schema.constraints at) (λ k.
         SaysRule (columns_at connection.now.session.state.schema.tables k.table) k.rule (string_bytes text)))) }
+    ensures reads { IfOk result (λ t. IfSome t (λ text. IfSome (slice_get connection.now.session.state.schema.constraints at) (λ k.
+        ReadsRule connection.now.session.state.schema k.table k.rule (string_bytes text)))) }
 {
     let Some(constraint) = constraint_at(connection, at) else {
         return Ok(None);
     };
-    let columns = columns_of(connection.session.catalogue(), constraint.table);
-    rule_condition(alloc, columns, &constraint.rule)
+    rule_condition(
+        alloc,
+        connection.session.catalogue(),
+        constraint.table,
+        &constraint.rule,
+    )
 }

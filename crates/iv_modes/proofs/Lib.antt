@@ -1,2 +1,3 @@
 pub mod OneConstraint
+pub mod MadeImmediate
 pub mod Setting

@@ -1,7 +1,8 @@
 -- The modes of constraints: a finite map by the constraint's number (ISO/IEC 9075-2:1999, "Set constraints mode statement").
-use Rattle.std.specs.Prelude.{◌≡◌, ℕ, Bool, false, ◌==◌, not, if◌then◌else◌, List, map, find, slice_get, Option, Some, None}
+use Rattle.std.specs.Prelude.{◌≡◌, ℕ, Bool, false, ◌==◌, not, if◌then◌else◌, List, [], ◌∷◌, map, find, slice_get, Option, Some, None}
 use Rattle.std.specs.List.{list_any}
 use Rattle.iv_syntax.specs.declared.statement.ConstraintMode.{ConstraintMode}
+use Rattle.iv_syntax.specs.declared.statement.ConstraintMode.TheVariants.{Immediate}
 use Rattle.iv_catalogue.specs.declared.constraint.Constraint.{Constraint}
 use Rattle.iv_machine.specs.Databases.{initial_modes, defers, is_deferred}
 use Rattle.iv_machine.specs.Machine.{with_modes}
@@ -26,6 +27,12 @@ first_not_deferrable m ids = find (λ id. not (is_deferrable m id)) ids
 -- the map after the mode of each of these constraints is set
 abbrev pub with_mode : ModeMap → List ℕ → ConstraintMode → ModeMap
 with_mode m ids mode = record m { modes = with_modes m.modes ids mode }
+
+-- of each mode, IMMEDIATE if the other list defers its place, and otherwise itself
+abbrev pub made_immediate : List ConstraintMode → List ConstraintMode → List ConstraintMode
+made_immediate [] after = []
+made_immediate (b ∷ before) [] = b ∷ before
+made_immediate (b ∷ before) (a ∷ after) = (if defers a then Immediate else b) ∷ made_immediate before after
 
 -- After these constraints are set to a mode, they have it, and every other constraint has the mode that it had.
 abbrev pub OnlyTheseAreSet : ModeMap → List ℕ → ConstraintMode → ModeMap → Type 0

@@ -1,8 +1,8 @@
 //! The mode of each constraint.
-ghost use Rattle.std.specs.Prelude.{◌≡◌, Some, None, find, fold, length, map, not, slice_set, IfOk, IfErr, OnOk, OnErr};
+ghost use Rattle.std.specs.Prelude.{◌≡◌, ◌&&◌, ℕ, Some, None, find, fold, length, map, not, slice_set, IfOk, IfErr, OnOk, OnErr};
 ghost use Rattle.iv_machine.specs.Databases.{initial_modes, is_deferred};
 ghost use Rattle.iv_machine.specs.Machine.{with_modes};
-ghost use Rattle.iv_modes.specs.ModeMaps.{OnlyTheseAreSet, first_not_deferrable, initial_map, is_deferrable, with_mode};
+ghost use Rattle.iv_modes.specs.ModeMaps.{OnlyTheseAreSet, first_not_deferrable, initial_map, is_deferrable, made_immediate, with_mode};
 
 use iv_catalogue::{Constraint, ConstraintId};
 use iv_syntax::ConstraintMode;
@@ -90,6 +90,28 @@ fn copy_each(modes: &mut [ConstraintMode], others: &[ConstraintMode])
     modes.copy_from_slice(others);
 }
 
+// Of each mode, IMMEDIATE if the other list defers its place, and otherwise itself.
+fn made_immediate(
+    alloc: Global,
+    before: &[ConstraintMode],
+    after: &[ConstraintMode],
+) -> Result<Vec<ConstraintMode>, AllocError>
+    ensures { IfOk result (λ v. v.items ≡ made_immediate before.now after.now) }
+{
+    let mut made = Vec::new(alloc);
+    let mut left = before;
+    let mut others = after;
+    while let [mode, rest @ ..] = left {
+        match others {
+            [ConstraintMode::Deferred, ..] => made.push(ConstraintMode::Immediate)?,
+            _ => made.push(*mode)?,
+        }
+        left = rest;
+        others = others.get(1..).unwrap_or(&[]);
+    }
+    Ok(made)
+}
+
 impl Modes {
     /// The modes of these constraints, all that there are, at the start of a transaction.
     pub fn initial(alloc: Global, constraints: &[Constraint]) -> Result<Modes, AllocError>
@@ -109,6 +131,19 @@ impl Modes {
         Ok(Modes {
             deferrable: Vec::from_slice(alloc, self.deferrable.as_slice())?,
             modes: Vec::from_slice(alloc, self.modes.as_slice())?,
+        })
+    }
+
+    /// Modes in which only those constraints are deferred that are deferred here and not in `after`.
+    #[tactic(auto, using(crate::proofs::MadeImmediate::as_long, crate::proofs::MadeImmediate::deferred_no_longer))]
+    pub fn made_immediate(&self, after: &Modes) -> Result<Modes, AllocError>
+        ensures { IfOk result (λ m. (id : ℕ) → is_deferred m.modes id
+            ≡ (is_deferred self.now.modes id && not (is_deferred after.now.modes id))) }
+    {
+        let alloc = *self.modes.allocator();
+        Ok(Modes {
+            deferrable: Vec::from_slice(alloc, self.deferrable.as_slice())?,
+            modes: made_immediate(alloc, self.modes.as_slice(), after.modes.as_slice())?,
         })
     }
 

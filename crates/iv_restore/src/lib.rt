@@ -2,6 +2,7 @@
 #![tactic(auto)]
 
 mod comparing;
+mod conditions;
 mod dumping;
 mod running;
 mod same;
@@ -9,5 +10,6 @@ mod same_tables;
 mod same_trees;
 mod same_triggers;
 
+pub use conditions::is_read_as;
 pub use dumping::checked_dump;
 pub use iv_dump::DumpRefusal;

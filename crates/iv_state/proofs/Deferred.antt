@@ -39,13 +39,6 @@ set_refused s ids mode m id e f = ap (set_by s ids mode) (sym (first_same s.sche
 
 -- ---- the first violation
 
-first_filter : (p : Fault → Bool) (xs : List Fault) → find p xs ≡ first (filter p xs)
-first_filter p [] = refl
-first_filter p (x ∷ xs) = by (p x) (first_filter p xs) where
-  by : (b : Bool) → find p xs ≡ first (filter p xs) → (if b then Some x else find p xs) ≡ first (if b then x ∷ filter p xs else filter p xs)
-  by true h = refl
-  by false h = h
-
 filter_more : (p : Fault → Bool) (xs ys : List Fault) → filter p (xs ++ ys) ≡ filter p xs ++ filter p ys
 filter_more p [] ys = refl
 filter_more p (x ∷ xs) ys = by (p x) (filter_more p xs ys) where
@@ -87,11 +80,12 @@ of_all rows chosen p id (c ∷ cs) =
     ∙ (λ i. of_one rows chosen p id c i ++ of_all rows chosen p (id + 1) cs i)
 
 -- the first of those that were deferred and no longer are
-pub made_immediate : (s : State) (new : List ConstraintMode)
-    → find (λ f. not (is_deferred new f.constraint)) (scan s.database.rows s.schema.constraints (is_chosen s.modes Deferred)) ≡ first_made_immediate s new
-made_immediate s new =
-    first_filter (λ x. not (is_deferred new x.constraint)) (scan s.database.rows s.schema.constraints (is_chosen s.modes Deferred))
-    ∙ ap first (of_all s.database.rows (is_deferred s.modes) (λ id. not (is_deferred new id)) 0 s.schema.constraints)
+pub made_immediate : (s : State) (old new made : List ConstraintMode) → old ≡ s.modes
+    → ((id : ℕ) → is_deferred made id ≡ (is_deferred old id && not (is_deferred new id)))
+    → first (scan s.database.rows s.schema.constraints (is_chosen made Deferred)) ≡ first_made_immediate s new
+made_immediate s old new made e h =
+    ap (λ (chosen : ℕ → Bool). first (scan s.database.rows s.schema.constraints chosen))
+    (λ i id. (h id ∙ ap (λ (modes : List ConstraintMode). is_deferred modes id && not (is_deferred new id)) e) i)
 
 -- nothing is chosen
 none_from : (rows : List StoredRow) (id : ℕ) (cs : List Constraint) → from rows (λ _. false) id cs ≡ []

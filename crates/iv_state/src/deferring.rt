@@ -1,9 +1,8 @@
 //! SET CONSTRAINTS.
-ghost use Rattle.std.specs.Prelude.{◌≡◌, ◌*◌, ◌+◌, ◌<◌, ◌≤◌, true, false, not, length, filter, map, find, IfOk, Some, None};
+ghost use Rattle.std.specs.Prelude.{◌≡◌, ◌*◌, ◌+◌, ◌<◌, ◌≤◌, true, false, length, filter, map, IfOk, Some, None};
 ghost use Rattle.std.specs.List.{enumerate_from};
 ghost use Rattle.iv_catalogue.specs.declared.plan.ConstraintSet.TheVariants as set;
 ghost use Rattle.iv_catalogue.specs.declared.limits.TheConstants.{MOST_CONSTRAINTS, MOST_TABLES};
-ghost use Rattle.iv_machine.specs.Databases.{first, is_deferred};
 ghost use Rattle.iv_machine.specs.Machine.{constraints_meant, first_made_immediate, is_deferrable, is_open, set_constraints_outcome};
 ghost use Rattle.iv_account.specs.Sessions.{set_constraints_told};
 ghost use Rattle.iv_account.specs.Telling.{and_told};
@@ -15,10 +14,10 @@ use crate::savepoints::refuse;
 use crate::session_state::{SessionState, Work};
 use iv_account::Account;
 use iv_catalogue::{Catalogue, Cause, Constraint, ConstraintId, ConstraintSet, Fault};
-use iv_machine::Answer;
+use iv_machine::{Answer, Which};
 use iv_modes::Modes;
 use iv_step::Outcome;
-use iv_store::Keeper;
+use iv_store::{ChangeableRows, Keeper};
 use iv_syntax::ConstraintMode;
 use std::alloc::{AllocError, Global};
 
@@ -61,22 +60,10 @@ fn all_deferrable(alloc: Global, catalogue: &Catalogue) -> Result<Vec<Constraint
     all_of(alloc, catalogue, catalogue.constraints())
 }
 
-// The first of these faults whose constraint is immediate.
-fn first_immediate(faults: &[Fault], modes: &Modes) -> Option<Fault>
-    ensures { result ≡ find (λ f. not (is_deferred modes.now.modes f.constraint)) faults.now }
-{
-    for fault in faults {
-        if !modes.is_deferred(fault.constraint) {
-            return Some(*fault);
-        }
-    }
-    None
-}
-
 impl<K: Keeper + Drop> SessionState<K> {
     // The first violation of a constraint that these modes make immediate, if they come of setting this mode. To defer
     // makes none immediate, so no row is read for it.
-    #[tactic(auto, using(crate::proofs::Deferred::none_made_immediate))]
+    #[tactic(auto, using(crate::proofs::Deferred::none_made_immediate, crate::proofs::Deferred::made_immediate))]
     fn first_made_immediate(
         &self,
         modes: &Modes,
@@ -89,8 +76,10 @@ impl<K: Keeper + Drop> SessionState<K> {
         match mode {
             ConstraintMode::Deferred => Ok(None),
             ConstraintMode::Immediate => {
-                let faults = self.pending()?;
-                Ok(first_immediate(faults.as_slice(), modes))
+                let made = self.modes().made_immediate(modes)?;
+                let fault = self.store.first_fault(&made, Which::Deferred);
+                drop(made);
+                Ok(fault)
             }
         }
     }

@@ -6,7 +6,7 @@ use Rattle.sqlkeep_c.specs.Behind.{Behind}
 use Rattle.iv_connection.specs.Dumps.{IsDumpStatus}
 use Rattle.iv_shown.specs.Statuses.{MayWantMemory, are_limits}
 use Rattle.iv_connection.specs.Templates.{WhyNotRead}
-use Rattle.iv_shown.specs.declared.status.TheConstants.{OK, CLOSED, OPEN, LIMITS, NOT_UTF8, TOO_LONG, NO_MEMORY}
+use Rattle.iv_shown.specs.declared.status.TheConstants.{OK, CLOSED, OPEN, LIMITS, NOT_UTF8, TOO_LONG, NO_MEMORY, NOT_RESTORED}
 
 -- an empty handle is closed; otherwise what is open decides
 abbrev pub status_by : (Behind → ℕ) → Option Behind → ℕ
@@ -26,6 +26,11 @@ IsStatus (Some opened) result = MayWantMemory result
 abbrev pub IsStatusOfFinding : (Behind → ℕ) → Option Behind → ℕ → Type 0
 IsStatusOfFinding f None result = result ≡ CLOSED
 IsStatusOfFinding f (Some opened) result = result ≢ NO_MEMORY → result ≡ f opened
+
+-- of a text that is read again before it is handed out
+abbrev pub IsStatusOfReadingAgain : (Behind → ℕ) → Option Behind → ℕ → Type 0
+IsStatusOfReadingAgain f None result = result ≡ CLOSED
+IsStatusOfReadingAgain f (Some opened) result = result ≢ NO_MEMORY → result ≢ NOT_RESTORED → result ≡ f opened
 
 -- of opening a session with these limits
 abbrev pub IsStatusOfOpening : Option Behind → ℕ → ℕ → ℕ → Type 0

@@ -1,17 +1,18 @@
 //! The catalogue's constraints, by their places.
 ghost use Rattle.std.specs.Prelude.{◌≡◌, ◌≢◌, slice_get, IfSome};
 ghost use Rattle.iv_shown.specs.Catalogue.{constraint_column, constraint_name, constraint_shown, mode_at, referenced_column};
-ghost use Rattle.iv_connection.specs.Conditions.{constraint_condition};
+ghost use Rattle.iv_connection.specs.Conditions.{ReadsRule, constraint_condition};
 ghost use Rattle.iv_shown.specs.Copying.{Copies};
 ghost use Rattle.iv_shown.specs.Statuses.{found};
-ghost use Rattle.sqlkeep_c.specs.Statuses.{IsStatusOfFinding, status_by};
+ghost use Rattle.sqlkeep_c.specs.Statuses.{IsStatusOfReadingAgain, status_by};
 
 use crate::handle::{Handle, put, take};
 use iv_connection::constraint_condition;
+use iv_restore::DumpRefusal;
 use iv_shown::{
-    CLOSED, NO_MEMORY, NOTHING, OK, ShownConstraint, constraint_at, constraint_column,
-    constraint_name, constraint_shown, copied, copied_if_there, mode_at, referenced_column,
-    write_place,
+    CLOSED, NO_MEMORY, NOT_RESTORED, NOTHING, OK, ShownConstraint, constraint_at,
+    constraint_column, constraint_name, constraint_shown, copied, copied_if_there, mode_at,
+    referenced_column, write_place,
 };
 use std::alloc::Global;
 
@@ -84,7 +85,12 @@ pub extern "C" fn sqlkeep_constraint_condition(
         Copies from text buffer.old buffer.new count.new)) }
     ensures kept { handle.new.kept.behind ≡ handle.old.kept.behind }
     ensures others { result ≢ OK → (buffer.new ≡ buffer.old) × (count.new ≡ count.old) }
-    ensures status { IsStatusOfFinding (λ old. found (constraint_condition old.session.state.schema at))
+    // Read again, it means just that condition.
+    ensures reads { IfSome handle.old.kept.behind (λ old. result ≡ OK
+        → IfSome (constraint_condition old.session.state.schema at) (λ text.
+        IfSome (slice_get old.session.state.schema.constraints at) (λ k.
+        ReadsRule old.session.state.schema k.table k.rule text))) }
+    ensures status { IsStatusOfReadingAgain (λ old. found (constraint_condition old.session.state.schema at))
         handle.old.kept.behind result }
 {
     let Some(connection) = take(handle, alloc) else {
@@ -98,6 +104,7 @@ pub extern "C" fn sqlkeep_constraint_condition(
             OK
         }
         Ok(None) => NOTHING,
+        Err(DumpRefusal::Differs) => NOT_RESTORED,
         Err(_) => NO_MEMORY,
     }
 }
