@@ -717,8 +717,8 @@ uint32_t sqlkeep_work(sqlkeep *handle, sqlkeep_done *work);
    next look. Their number is written to `count`. SQLKEEP_CLOSED, SQLKEEP_NO_MEMORY. */
 uint32_t sqlkeep_pending(sqlkeep *handle, size_t *count);
 
-/* The number of the row of a violation that was found, and the name of its constraint as far as it fits. It is to be called
-   before the next statement. SQLKEEP_CLOSED; SQLKEEP_NOTHING: there is no violation at this place. */
+/* The number of the row of a violation that was found, and the name of its constraint as far as it fits; sqlkeep_violation_about and
+   sqlkeep_constraint_name give a name of any length. It is to be called before the next statement. SQLKEEP_CLOSED; SQLKEEP_NOTHING: there is no violation at this place. */
 uint32_t sqlkeep_violation(sqlkeep *handle, size_t at, uint64_t *row, uint8_t *buffer, size_t size, size_t *copied);
 
 /* What a violation that was found is about. For a key it looks for the other row among the violations that were found. It is to be
@@ -1066,17 +1066,18 @@ static inline const char *sqlkeep_status_text(uint32_t status) {
         return "the template has another number of question marks than there are values";
     case SQLKEEP_NO_TEMPLATE:
         return "the template has a place with neither a token nor a question mark";
+    case SQLKEEP_IN_TRANSACTION:
+        return "a transaction is open";
     default:
         return "unknown status";
     }
 }
 
-/* ---- a template with its values
+/* ---- a template with its values */
 
-   Reads the statements of a template with these values in place of its question marks, the first for the first, and keeps them
-   as sqlkeep_read does. Values that were bound before are forgotten, and those that are bound here too, whatever the status.
-   SQLKEEP_CLOSED, SQLKEEP_NOT_UTF8, SQLKEEP_NO_MEMORY, SQLKEEP_NO_HANDLE, SQLKEEP_WRONG_COUNT, SQLKEEP_NO_TEMPLATE;
-   SQLKEEP_NOTHING: the kind of a value is none of enum sqlkeep_value_kind. */
+/* Binds a value after those that are bound, by the call for its kind.
+   SQLKEEP_CLOSED, SQLKEEP_NOT_UTF8, SQLKEEP_NO_MEMORY, SQLKEEP_NO_HANDLE;
+   SQLKEEP_NOTHING: the kind of the value is none of enum sqlkeep_value_kind. */
 static inline uint32_t sqlkeep_bind(sqlkeep *handle, const sqlkeep_parameter *value) {
     switch (value->kind) {
     case SQLKEEP_NULL:
@@ -1090,6 +1091,10 @@ static inline uint32_t sqlkeep_bind(sqlkeep *handle, const sqlkeep_parameter *va
     }
 }
 
+/* Reads the statements of a template with these values in place of its question marks, the first for the first, and keeps them
+   as sqlkeep_read does. Values that were bound before are forgotten, and those that are bound here too, whatever the status.
+   SQLKEEP_CLOSED, SQLKEEP_NOT_UTF8, SQLKEEP_NO_MEMORY, SQLKEEP_NO_HANDLE, SQLKEEP_WRONG_COUNT, SQLKEEP_NO_TEMPLATE;
+   SQLKEEP_NOTHING: the kind of a value is none of enum sqlkeep_value_kind. */
 static inline uint32_t sqlkeep_read_filled(sqlkeep *handle, const uint8_t *text, size_t length, const sqlkeep_parameter *values, size_t count, sqlkeep_script *script) {
     uint32_t status = sqlkeep_unbind(handle);
     for (size_t at = 0; status == SQLKEEP_OK && at < count; at++) {

@@ -248,7 +248,7 @@ def a_query_without_rows_has_heads(page):
 @test
 def a_refusal_says_what_it_means(page):
     page.run_script("SELECT * FROM nowhere;")
-    equal(page.texts("#said .why")[0], "Table NOWHERE isn't there. A name in the statement names nothing. The statement changed nothing.")
+    equal(page.texts("#said .why")[0], "Table NOWHERE isn't there. A name names nothing. The statement changed nothing.")
 
 
 @test
