@@ -8,6 +8,7 @@ The compiler hands the whole library to the clang of its toolchain as one module
 same clang and linked with a small memory of its own (page/wasm), and binaryen gives it addresses of 32 bits, which every engine runs.
 It wants the packages binaryen and node: apt-get install binaryen nodejs.
 """
+import json
 import os
 import re
 import shlex
@@ -115,7 +116,8 @@ def lower(sandbox, to):
     run(sandbox, "wasm-opt", *(f"--enable-{feature}" for feature in FEATURES), "--memory64-lowering", "wide.wasm", "-o", "low.wasm")
     to.mkdir(parents=True, exist_ok=True)
     shutil.copyfile(sandbox / "low.wasm", to / "sqlkeep.wasm")
-    for file in ("sqlkeep.mjs", "account.mjs", "catalogue.mjs", "sqlkeep.d.ts", "package.json"):
+    package = json.loads(Path(ROOT, "page", "package.json").read_text("utf-8"))
+    for file in ("package.json", *(each for each in package["files"] if Path(ROOT, "page", each).suffix in (".mjs", ".ts"))):
         shutil.copyfile(Path(ROOT, "page", file), to / file)
 
 
