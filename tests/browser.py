@@ -72,6 +72,13 @@ class Page:
 
     def open(self, address="", file=None):
         self.browser.open((file or self.file).as_uri() + address)
+        self.ready()
+
+    def reload(self):
+        self.browser.reload()
+        self.ready()
+
+    def ready(self):
         self.browser.wait(lambda: self.browser.script("return document.documentElement.dataset.ready"), "the page")
         self.idle()
 

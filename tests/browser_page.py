@@ -1,6 +1,8 @@
 """What the page does, tried in a browser: each function of TESTS is one test over a Page (browser.py)."""
+import base64
 import re
 import time
+import zlib
 from pathlib import Path
 
 import documents
@@ -9,6 +11,21 @@ import links
 ROOT = Path(__file__).resolve().parent.parent
 TESTS = []
 LINE_OF_ANSWER = re.compile(r"^\d+ (?:ok|rows|refused|fault)\b.*$", re.M)
+
+
+# The words of the panes whose letters stand in more than one line.
+BROKEN_WORDS = """
+    const found = [], texts = document.createTreeWalker(document.body, NodeFilter.SHOW_TEXT, (node) => node.parentElement.closest('.editor, select, script, style, pre') ? NodeFilter.FILTER_REJECT : NodeFilter.FILTER_ACCEPT);
+    while (texts.nextNode()) {
+        for (const word of texts.currentNode.data.matchAll(/[\\p{L}\\d]+/gu)) {
+            const range = document.createRange();
+            range.setStart(texts.currentNode, word.index);
+            range.setEnd(texts.currentNode, word.index + word[0].length);
+            if (new Set([...range.getClientRects()].map((box) => Math.round(box.top))).size > 1) { found.push(word[0]); }
+        }
+    }
+    return found;
+"""
 
 
 def test(function):
@@ -441,7 +458,27 @@ def waiting_constraints_fill_and_empty(page):
     for number in (8, 9, 10):
         page.open(f"#e=rings&n={number}")
         found[number] = page.texts(".waiting li li")
-    equal(found, {8: ["PLAYER row 3 (8, 2)", "PLAYER row 4 (9, 3)"], 9: ["PLAYER row 4 (9, 3)"], 10: []})
+    third, fourth = (f"PLAYER row {row} ({number}, {team}) refers to TEAM ({team}), which isn't there" for row, number, team in ((3, 8, 2), (4, 9, 3)))
+    equal(found, {8: [third, fourth], 9: [fourth], 10: []})
+
+
+@test
+def a_waiting_row_has_its_reason(page):
+    page.run_script("CREATE TABLE p (a INT, b INT, UNIQUE (a, b));\nCREATE TABLE t (k INT CONSTRAINT one PRIMARY KEY INITIALLY DEFERRED, a INT, b INT CONSTRAINT some CHECK (b > 0) INITIALLY DEFERRED,\n"
+                    "    CONSTRAINT both FOREIGN KEY (a, b) REFERENCES p (a, b) MATCH FULL INITIALLY DEFERRED);\nINSERT INTO t VALUES (7, NULL, 1), (7, NULL, NULL), (NULL, 2, 0);")
+    equal(page.texts(".waiting li li"), [
+        "T row 1 (7, NULL, 1) has the key of row 2", "T row 2 (7, NULL, NULL) has the key of row 1", "T row 3 (NULL, 2, 0) has a null in its key", "T row 3 (NULL, 2, 0) makes b > 0 false",
+        "T row 1 (7, NULL, 1) has some nulls in its key", "T row 3 (NULL, 2, 0) refers to P (2, 0), which isn't there"])
+    assert page.texts(".waiting .mode")[0].endswith("COMMIT would be refused:"), page.texts(".waiting .mode")[0]
+
+
+@test
+def words_are_not_broken(page):
+    """At no width a word of a pane goes over two lines, except in code, which may be long."""
+    for width, name in ((1280, "rings&n=8"), (400, "rings&n=8"), (1280, "savepoints&n=12"), (400, "first&n=6"), (400, "nulls&n=6"), (400, "guards&n=11")):
+        page.browser.size(width, 900)
+        page.open(f"#e={name}")
+        equal([width, name, page.browser.script(BROKEN_WORDS)], [width, name, []])
 
 
 @test
@@ -552,6 +589,16 @@ def a_damaged_address_is_told(page):
 
 
 @test
+def an_address_that_inflates_is_told(page):
+    """300 MB in 390 kB: the page reads as much as a script may have, and goes on."""
+    packer = zlib.compressobj(9, zlib.DEFLATED, -15)
+    packed = b"".join(packer.compress(bytes(1000000)) for _ in range(300)) + packer.flush()
+    page.open("#s=" + base64.urlsafe_b64encode(packed).decode().rstrip("="))
+    equal(page.text("#status"), "This address holds no script: the script is longer than 1,048,576 bytes.")
+    equal(len(page.lines()), 10)
+
+
+@test
 def save_writes_the_script(page):
     page.open("#e=keys")
     page.click("#save")
@@ -594,9 +641,38 @@ def stop_ends_a_run_and_the_page_goes_on(page):
     page.browser.wait(lambda: not page.browser.script("return document.getElementById('stop').disabled"), "Stop")
     page.browser.click("#stop")
     page.idle()
-    assert re.fullmatch(r"Stopped after \d+ statements?\.", page.text("#status")), page.text("#status")
+    assert re.fullmatch(r"Stopped\. \d+ statements? of 617 executed\.", page.text("#status")), page.text("#status")
     page.run_script("COMMIT;")
     equal(page.lines(), ["1 ok"])
+
+
+@test
+def a_slow_statement_shows_that_it_runs(page):
+    """The statements before it have their answers, the time goes on, and Stop says how many there were."""
+    page.put("CREATE TABLE t (a INT);\nINSERT INTO t VALUES (1);\n" + "INSERT INTO t SELECT * FROM t;\n" * 14 + "DELETE FROM t WHERE EXISTS (SELECT * FROM t AS x WHERE x.a > t.a);\nCOMMIT;\n")
+    page.browser.click("#run")
+    page.browser.wait(lambda: re.fullmatch(r"Running for \d+ s: 16 statements of 18 executed", page.text("#status")), "the time of the run")
+    equal(page.texts(".answer .said")[:2], ["1 ok", "2 ok 1"])
+    page.browser.click("#stop")
+    page.idle()
+    equal(page.text("#status"), "Stopped. 16 statements of 18 executed.")
+
+
+@test
+def a_script_comes_back_after_a_reload(page):
+    for address in ("", "#e=rings&n=8"):
+        page.open(address)
+        page.reload()
+        equal(page.value("#example"), "rings" if address else "first")
+        page.type("COMMIT; -- \u00e9\n")
+        page.reload()
+        equal([page.value("#script"), page.value("#example"), page.lines()], ["COMMIT; -- \u00e9\n", "your script", []])
+        equal(page.text("#status"), "This is the script that was typed here last: run it.")
+        page.click("#run")
+        equal(page.lines(), ["1 ok"])
+    page.choose_example("keys")
+    page.reload()
+    equal(page.value("#script"), "COMMIT; -- \u00e9\n")
 
 
 @test

@@ -2,6 +2,7 @@
 import assert from "node:assert/strict";
 import { readFileSync } from "node:fs";
 import { pathToFileURL } from "node:url";
+import { deflateRawSync } from "node:zlib";
 
 const folder = process.argv[2];
 const { EngineError, Refusal, Session, SyntaxFault, Trap, load } = await import(pathToFileURL(`${folder}/sqlkeep.mjs`));
@@ -10,6 +11,8 @@ const engine = await load(readFileSync(`${folder}/sqlkeep.wasm`));
 const SCHEMA = `CREATE TABLE author (name VARCHAR(20) PRIMARY KEY);
 CREATE TABLE book (title VARCHAR(30) PRIMARY KEY,
     author VARCHAR(20) CONSTRAINT written_by REFERENCES author ON DELETE CASCADE INITIALLY DEFERRED);`;
+
+const parts = new URL("../page/parts/", import.meta.url);
 
 const tests = {
   outcomes() {
@@ -404,6 +407,19 @@ const tests = {
     session.close();
     assert.equal(engine.open().execute("COMMIT;")[0].kind, "done");
   },
+  async an_address_that_inflates() {
+    const { addressOf, scriptOf } = await import(new URL("share.mjs", parts));
+    const script = "\ufeffSELECT 'é€😀' FROM t;\n".repeat(30000);
+    assert.equal((await scriptOf(await addressOf(script, 7, {}))).script, script);
+    const most = "-- ".padEnd(1 << 20, "x");
+    assert.equal((await scriptOf(await addressOf(most, 0, {}))).script, most);
+    await assert.rejects(addressOf(`${most}x`, 0, {}).then(scriptOf), { message: "the script is longer than 1,048,576 bytes" });
+    const before = process.resourceUsage().maxRSS, bomb = deflateRawSync(Buffer.alloc(300e6)).toString("base64url");
+    const packed = process.resourceUsage().maxRSS;
+    await assert.rejects(scriptOf(`#s=${bomb}`), { message: "the script is longer than 1,048,576 bytes" });
+    assert.ok(process.resourceUsage().maxRSS - packed < 60000, `${packed - before} kB, and then ${process.resourceUsage().maxRSS - packed} kB`);
+    await assert.rejects(scriptOf(`#s=${bomb.slice(0, 100)}`), { message: "the script in the address is damaged or cut off" });
+  },
   two_sessions() {
     const [one, other] = [engine.open(), engine.open()];
     one.execute("CREATE TABLE t (a INT);");
@@ -413,7 +429,7 @@ const tests = {
 
 for (const [name, test] of Object.entries(tests)) {
   try {
-    test();
+    await test();
     console.log(`ok ${name}`);
   } catch (error) {
     console.log(`FAILED ${name}: ${error.message.replaceAll("\n", " ")}`);

@@ -1,6 +1,7 @@
 #!/usr/bin/env python3
 """Tries the engine in JavaScript: every script of tests/scripts and examples that has no other words than limits, with accounts where they are
-there; the accounts of all of them, read into objects and written again; and the calls of a session (javascript.mjs).
+there; the accounts of all of them, read into objects and written again; the calls of a session (javascript.mjs); and that a build that is
+ended leaves nothing behind.
 
   tests/javascript.py --library FOLDER
 
@@ -15,11 +16,14 @@ import shutil
 import subprocess
 import sys
 import tempfile
+import time
+from pathlib import Path
 
 import c_library
 import run
 
 HERE = os.path.dirname(os.path.abspath(__file__))
+ROOT = Path(HERE).parent
 # What the program says of a script that it doesn't run, by the status of the library.
 STOPS = {4: b"sqlkeep: the script is not UTF-8\n", 5: b"sqlkeep: the script is longer than 1048576 bytes\n"}
 
@@ -63,6 +67,25 @@ def is_unlike(answer):
     return answer is None or answer.get("unlike") is not None or ("accounts" not in answer and answer.get("status") not in STOPS)
 
 
+def ended_build():
+    """What a build of the page leaves that gets SIGTERM, and what one leaves that was killed, when the next one has begun."""
+    out, killed = ROOT / "out", ROOT / "out" / "sandboxes-of-a-killed-build"
+    killed.mkdir(parents=True, exist_ok=True)
+    (killed / "lock").touch()
+    build = subprocess.Popen([sys.executable, ROOT / "tools" / "page.py", "--unproved"], stdout=subprocess.DEVNULL, stderr=subprocess.DEVNULL)
+    try:
+        until = time.monotonic() + 60
+        while build.poll() is None and time.monotonic() < until and not list(out.glob("sandboxes-*/whole/kit")):
+            time.sleep(0.05)
+        begun = list(out.glob("sandboxes-*/whole/kit"))
+        build.terminate()
+        build.wait(60)
+    finally:
+        build.kill()
+    left = [str(path) for path in [*out.glob("sandboxes-*/whole"), killed] if path.exists()]
+    return left if begun else ["the build didn't begin"]
+
+
 def said(answer):
     if answer is None:
         return b"no answer"
@@ -86,6 +109,10 @@ def main():
     unlike, accounts, scripts = read_again(wanted, folder)
     print("".join(f"FAILED account of {why[:600]}\n" for why in unlike) + f"{accounts} accounts of {scripts} scripts read into objects and written again")
     passed, failed = passed + scripts - len(unlike), failed + len(unlike)
+    if shutil.which("rt") and shutil.which("wasm-opt"):
+        left = ended_build()
+        passed, failed = passed + (not left), failed + bool(left)
+        print("".join(f"FAILED a build that is ended: {each}\n" for each in left), end="")
     calls = subprocess.run(["node", os.path.join(HERE, "javascript.mjs"), folder], capture_output=True, text=True, timeout=300, check=False)
     for line in calls.stdout.splitlines():
         passed, failed = passed + line.startswith("ok "), failed + line.startswith("FAILED ")

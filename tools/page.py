@@ -13,9 +13,9 @@ import os
 import re
 import shlex
 import shutil
+import signal
 import subprocess
 import sys
-import tempfile
 from pathlib import Path
 
 sys.dont_write_bytecode = True
@@ -26,7 +26,9 @@ import front_end
 import libraries
 import parts
 import repository
+import sandboxes
 import toolchains
+import unproved
 from repository import ROOT, kit, say
 
 TARGET = "wasm64-unknown-unknown"
@@ -125,10 +127,10 @@ def main(words):
     if shutil.which("wasm-opt") is None:
         say("wasm-opt isn't here: apt-get install binaryen")
         return 2
+    signal.signal(signal.SIGTERM, unproved.ended)
     is_unproved = "--unproved" in words
     to = Path(ROOT, "out", "unproved") if is_unproved else Path(ROOT, "out")
-    to.mkdir(parents=True, exist_ok=True)
-    with tempfile.TemporaryDirectory(prefix="making-", dir=to) as folder:
+    with sandboxes.held() as folder:
         sandbox = Path(folder)
         if not (keep_unproved_module(sandbox) if is_unproved else keep_proved_module(sandbox)):
             return 1
