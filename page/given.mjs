@@ -1,4 +1,4 @@
-// What a caller gives, tested before anything is made of it: nothing is changed on its way to the engine.
+// What a caller gives, tested before anything is made of it: nothing is changed on its way to the engine. And bytes as texts and places.
 
 const OPTIONS = { depth: 16, changes: 65536, explain: false };
 const decoder = () => new TextDecoder("utf-8", { ignoreBOM: true });

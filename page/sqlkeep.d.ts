@@ -170,6 +170,8 @@ export interface Constraint {
   columns: string[];
   isDeferrable: boolean;
   isInitiallyDeferred: boolean;
+  /** Whether its mode is deferred now: SET CONSTRAINTS sets it, and at the end of the transaction it is the initial one again. */
+  isDeferred: boolean;
   nullsNotDistinct: boolean;
   /** The table and the columns that a foreign key refers to. */
   referenced: string | null;

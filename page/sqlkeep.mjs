@@ -365,10 +365,9 @@ export class Session {
 
   // A violation that was found: the row has these values in the columns of the constraint, and the other row has them too.
   #violation(at) {
-    this.#ask("sqlkeep_violation", at, this.#result, this.#buffer, BigInt(BUFFER_BYTES), this.#result + 8n);
-    const constraint = textOf(this.#bytes(this.#buffer, this.#number(1)));
     this.#ask("sqlkeep_violation_about", at, this.#result);
-    const [columns, row, other] = [1, 2, 3].map((place) => this.#number(place));
+    const named = this.#view.getUint32(Number(this.#result), true), [columns, row, other] = [1, 2, 3].map((place) => this.#number(place));
+    const constraint = this.#pieces("sqlkeep_constraint_name", BigInt(named));
     const key = Array.from({ length: columns }, (_, place) => this.#value("sqlkeep_violation_value", "sqlkeep_violation_text", at, BigInt(place)));
     return { row, constraint, key, other: other || null };
   }

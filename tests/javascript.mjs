@@ -381,10 +381,15 @@ const tests = {
     assert.deepEqual(tables[0], { name: "P", columns: [{ name: "K", type: "INTEGER", length: null, default: 7 }, { name: "L", type: "VARCHAR", length: 9, default: "none" }] });
     assert.deepEqual(constraints.map(({ name, table, kind, columns }) => [name, table, kind, columns]),
       [["P_C1", "P", "PRIMARY KEY", ["L", "K"]], ["C_C1", "C", "NOT NULL", ["Y"]], ["F", "C", "FOREIGN KEY", ["X", "Y"]], ["C_C3", "C", "UNIQUE", ["Y"]], ["C_C4", "C", "CHECK", []]]);
-    assert.deepEqual(constraints[2], { name: "F", table: "C", kind: "FOREIGN KEY", columns: ["X", "Y"], isDeferrable: true, isInitiallyDeferred: true, nullsNotDistinct: false, referenced: "P",
+    assert.deepEqual(constraints[2], { name: "F", table: "C", kind: "FOREIGN KEY", columns: ["X", "Y"], isDeferrable: true, isInitiallyDeferred: true, isDeferred: true, nullsNotDistinct: false, referenced: "P",
       referencedColumns: ["K", "L"], isMatchFull: true, onDelete: "SET NULL", onUpdate: "CASCADE", condition: null });
     assert.deepEqual([constraints[3].nullsNotDistinct, constraints[3].isDeferrable, constraints[3].isInitiallyDeferred, constraints[3].referenced, constraints[3].onDelete], [true, true, false, null, null]);
     assert.deepEqual(constraints.map(({ condition }) => condition), [null, null, null, null, "X > 0"]);
+    const deferred = () => session.catalogue().constraints.filter(({ isDeferred }) => isDeferred).map(({ name }) => name);
+    session.execute("START TRANSACTION; SAVEPOINT s; SET CONSTRAINTS ALL IMMEDIATE; SET CONSTRAINTS c_c3 DEFERRED;");
+    assert.deepEqual(deferred(), ["C_C3"]);
+    session.rollbackTo("s");
+    assert.deepEqual(deferred(), ["F"]);
     assert.deepEqual(triggers, [{ name: "R", table: "C", time: "AFTER", event: "UPDATE", forEach: "ROW", columns: ["Y"], statements: 2 }]);
   },
   a_dump() {
