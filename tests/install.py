@@ -218,7 +218,8 @@ def folders_that_were_there_stay(folder, words):
 
 
 def one_that_fails_is_undone(folder, words):
-    """A folder stands in the way of the last files: what was there before is as it was."""
+    """A folder stands in the way of the last files, a file in that of all, or no file may have more than a megabyte, as on a full disk: what was
+    there before is as it was."""
     prefix = folder / "failed"
     (prefix / LIST).parent.mkdir(parents=True)
     (prefix / "share/zsh/site-functions/_sqlkeep").mkdir(parents=True)
@@ -231,6 +232,8 @@ def one_that_fails_is_undone(folder, words):
     (prefix / "new").write_text("")
     done = run("./install", "--prefix", prefix / "new/deeper", *words)
     assert done.returncode == 1 and b"Traceback" not in done.stderr and set(prefix.rglob("*")) == {*before, prefix / "new"}, done
+    done = run("bash", "-c", 'ulimit -f 1000; exec ./install --prefix "$@"', "bash", folder / "full", *words)
+    assert done.returncode == 1 and done.stderr.endswith(b": File too large\n") and not (folder / "full").exists(), done
 
 
 def an_older_one_is_replaced(folder, words):

@@ -269,7 +269,7 @@ def main():
         print(f"install: {why}", file=sys.stderr)
         return 1
     except OSError as error:
-        print(f"install: {error.filename}: {error.strerror}", file=sys.stderr)
+        print(f"install: {error.filename2 or error.filename}: {error.strerror}", file=sys.stderr)
         return 1
     for each in told:
         print(f"install: {each}", file=sys.stderr)
