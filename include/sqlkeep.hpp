@@ -519,14 +519,21 @@ private:
     sqlkeep_outcome execute_explained() {
         std::uint32_t kind = 0;
         detail::check(sqlkeep_statement_kind(&handle_, 0, &kind));
-        if (!explained_ && kind != SQLKEEP_TRANSACTION) {
-            sqlkeep_outcome outcome;
-            detail::check(sqlkeep_execute(&handle_, 0, &outcome));
-            if (outcome.kind != SQLKEEP_REFUSED) return outcome;
-            if (outcome.cause == SQLKEEP_CAUSE_OUT_OF_MEMORY) throw refused(why(outcome, 0));
+        if (explained_ || kind == SQLKEEP_TRANSACTION) {
+            const asking account(*this, true);
+            return execute_at(0);
         }
-        const asking account(*this, true);
-        return execute_at(0);
+        sqlkeep_outcome outcome;
+        detail::check(sqlkeep_execute(&handle_, 0, &outcome));
+        if (outcome.kind != SQLKEEP_REFUSED) return outcome;
+        refusal found = why(outcome, 0);
+        if (found.cause != SQLKEEP_CAUSE_OUT_OF_MEMORY) {
+            const asking account(*this, true);
+            detail::check(sqlkeep_execute(&handle_, 0, &outcome));
+            // There may be no memory for the account.
+            if (outcome.cause == found.cause) found = why(outcome, 0);
+        }
+        throw refused(std::move(found));
     }
 
     template <typename Copy> std::optional<std::string> name(Copy copy) {

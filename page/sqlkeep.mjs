@@ -178,7 +178,10 @@ export class Session {
     }
     const fault = new SyntaxFault(this.fault, bytes);
     if (fault.isCut && read.statements === 0) {
-      const ended = new Uint8Array([...bytes, ...SEMICOLON]), again = this.#read(ended, values);
+      const ended = new Uint8Array(bytes.length + SEMICOLON.length);
+      ended.set(bytes);
+      ended.set(SEMICOLON, bytes.length);
+      const again = this.#read(ended, values);
       if (again.faultAt === null && again.statements === 1) {
         return { bytes: ended, statements: 1 };
       }
@@ -197,11 +200,12 @@ export class Session {
   // Executes, and throws a refusal with its sentence. What is refused changed nothing, so it is refused in the same way once more, with its
   // account, where it had none.
   #accepted(execute, isTold, place = "") {
-    let outcome = isTold ? this.#withAccount(execute) : execute();
-    if (outcome.kind === "refused" && !isTold && outcome.cause !== OUT_OF_MEMORY) {
-      outcome = this.#isExplained ? outcome : this.#withAccount(execute);
+    const outcome = isTold ? this.#withAccount(execute) : execute();
+    let lines = this.#account;
+    if (outcome.kind === "refused" && !isTold && !this.#isExplained && outcome.cause !== OUT_OF_MEMORY) {
+      // There may be no memory for the account.
+      lines = this.#withAccount(execute).cause === outcome.cause ? this.#account : [];
     }
-    const lines = this.#account;
     if (!this.#isExplained) {
       this.#account = [];
     }
