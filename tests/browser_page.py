@@ -191,7 +191,20 @@ def a_fault_is_marked_at_its_line(page):
     equal(page.lines(), ["1 ok", "2 fault 8"])
     equal([page.texts(".line.fault"), page.joined(".faulty")], [["SELEKT;"], "SELEKT;"])
     equal(page.texts("#said .why")[0], "No statement begins at line 2, column 1: SELEKT;")
+    assert page.texts("#said .why")[1].startswith("The first word that can't stand where it does is at line 2, column 1: SELEKT; wanted "), page.texts("#said .why")
     assert page.text("#status").endswith("No statement begins at line 2, column 1."), page.text("#status")
+
+
+@test
+def a_fault_says_what_is_known_of_it(page):
+    """The words are those of docs/language/mistakes.md and of the grammar: behind FROM stands the name of a table."""
+    for script, wanted in (
+        ("COMMIT;\nSELECT * FROM a\n  JOIN b;", "The first word that can't stand where it does is at line 3, column 8: JOIN isn't in this language."),
+        ("SELECT a FROM 7;", "The first word that can't stand where it does is at line 1, column 15: 7; wanted a name."),
+        ("SELECT a FROM ", "The script ends within that statement at line 1, column 15: the end of the text; wanted a name."),
+    ):
+        page.run_script(script)
+        equal(page.texts("#said .why")[1], wanted)
 
 
 @test

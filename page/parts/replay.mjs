@@ -14,10 +14,15 @@ export function placeOfByte(text, byte) {
   return { at: before.length, line: lines.length, column: [...lines.at(-1)].length + 1, words: [...words].slice(0, 60).join("") };
 }
 
+// What the engine says of the fault of a text that begins with it: the word, and what might have stood there or is known of it.
+function toldOf(engine, text) {
+  return /^1 fault 0\n  line \d+, column \d+: (.*)/.exec(engine.run(text, { explain: true }).transcript)?.[1] ?? "";
+}
+
 export class Replay {
   /**
-   * The place at which no statement begins, and that of the first word that can't stand where it does.
-   * @type {{at: number, line: number, column: number, words: string, byte: number, word: ReturnType<typeof placeOfByte>, isCut: boolean} | null}
+   * The place at which no statement begins, that of the first word that can't stand where it does, and what is told of it.
+   * @type {{at: number, line: number, column: number, words: string, byte: number, word: ReturnType<typeof placeOfByte>, isCut: boolean, told: string} | null}
    */
   fault = null;
 
@@ -41,7 +46,10 @@ export class Replay {
     this.whole = script ?? this.script;
     const { statements } = this.session.read(this.whole);
     const { fault } = this.session;
-    this.fault ??= fault && { ...placeOfByte(this.script, fault.at), byte: fault.at, word: placeOfByte(this.script, fault.word), isCut: fault.isCut };
+    if (fault) {
+      const place = placeOfByte(this.script, fault.at);
+      this.fault = { ...place, byte: fault.at, word: placeOfByte(this.script, fault.word), isCut: fault.isCut, told: toldOf(this.engine, this.script.slice(place.at)) };
+    }
     this.count = statements;
     this.at = 0;
     this.last = null;
