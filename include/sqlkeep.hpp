@@ -170,6 +170,7 @@ inline void check(std::uint32_t status) {
     case SQLKEEP_WRONG_COUNT: throw usage_error("the text has another number of question marks than there are values");
     case SQLKEEP_NO_TEMPLATE: throw usage_error("the text has a character that begins no token, or a text without its end");
     case SQLKEEP_IN_TRANSACTION: throw usage_error("a transaction is open");
+    case SQLKEEP_NOT_RESTORED: throw usage_error("what was written doesn't make the same again");
     default: throw usage_error("the session was moved from");
     }
 }
@@ -374,7 +375,7 @@ public:
     }
 
     // The database as scripts that make it again, to be executed one after another in a new session; each ends with a COMMIT or outside a
-    // transaction. usage_error: a transaction is open. The account of the last statement is gone.
+    // transaction. usage_error: a transaction is open, or the scripts, which are run in a database of their own, don't make this one again.
     std::vector<std::string> dump() {
         std::size_t count = 0;
         detail::check(sqlkeep_dump(&handle_, &count));

@@ -15,7 +15,7 @@ import { readCatalogue } from "./catalogue.mjs";
 import { placeIn, testedFlag, testedNumber, testedOptions, testedText, testedValues, textOf, textOfParts } from "./given.mjs";
 import { sentenceOf } from "./refusal.mjs";
 
-const OK = 0, CLOSED = 1, LIMITS = 3, NOT_UTF8 = 4, TOO_LONG = 5, NO_MEMORY = 6, NOTHING = 7, WRONG_COUNT = 9, NO_TEMPLATE = 10, IN_TRANSACTION = 11;
+const OK = 0, CLOSED = 1, LIMITS = 3, NOT_UTF8 = 4, TOO_LONG = 5, NO_MEMORY = 6, NOTHING = 7, WRONG_COUNT = 9, NO_TEMPLATE = 10, IN_TRANSACTION = 11, NOT_RESTORED = 12;
 const CHANGED = 1, ROWS = 2, REFUSED = 3;
 const TRANSACTION = 3, SIGNAL = 15, OUT_OF_MEMORY = 22;
 const NULL = 0, INTEGER = 1;
@@ -33,6 +33,7 @@ const WORDS = new Map([
   [WRONG_COUNT, "the template has another number of question marks than there are values"],
   [NO_TEMPLATE, "the template has something that is neither a token nor a question mark"],
   [IN_TRANSACTION, "a transaction is open"],
+  [NOT_RESTORED, "what was written doesn't make the same again"],
 ]);
 
 /** A call that could not be made; `status` is that of the library for C. */
@@ -326,7 +327,7 @@ export class Session {
 
   /**
    * The database as scripts that make it again, to be executed one after another in a new session. It throws an EngineError where a
-   * transaction is open. The account of the last statement is gone.
+   * transaction is open, or where the scripts, which are run in a database of their own, don't make this one again.
    */
   dump() {
     this.#ask("sqlkeep_dump", this.#result);

@@ -6,7 +6,7 @@ import zlib
 
 import documents
 import links
-from browser_page import TESTS, equal, example, test
+from browser_page import LINE_OF_ANSWER, TESTS, equal, example, test
 
 __all__ = ["TESTS"]
 

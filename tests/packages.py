@@ -107,11 +107,12 @@ def c_parameters(place):
 
 
 def c_words_of_statuses(place):
-    """Each status of the header has words of its own, and no other number has any."""
+    """The header has each status of the library, each has words of its own, and no other number has any."""
     folder = place.folder("statuses")
     header = (ROOT / "include/sqlkeep.h").read_text("utf-8")
-    statuses = re.findall(r"^    SQLKEEP_\w+ = (\d+),?$", re.search(r"enum sqlkeep_status \{(.*?)\n\};", header, re.S)[1], re.M)
-    assert [int(each) for each in statuses] == list(range(len(statuses))) and len(statuses) > 11, statuses
+    statuses = dict(re.findall(r"^    SQLKEEP_(\w+) = (\d+),?$", re.search(r"enum sqlkeep_status \{(.*?)\n\};", header, re.S)[1], re.M))
+    library = dict(re.findall(r"^pub const (\w+): u32 = (\d+);$", (ROOT / "crates/iv_shown/src/status.rt").read_text("utf-8"), re.M))
+    assert {**library, "NO_HANDLE": "8"} == statuses and sorted(map(int, statuses.values())) == list(range(len(statuses))), (library, statuses)
     (folder / "statuses.c").write_text(f"""#include <sqlkeep.h>
 #include <stdio.h>
 int main(void) {{

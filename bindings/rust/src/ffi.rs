@@ -9,6 +9,7 @@ pub const NOTHING: u32 = 7;
 pub const WRONG_COUNT: u32 = 9;
 pub const NO_TEMPLATE: u32 = 10;
 pub const IN_TRANSACTION: u32 = 11;
+pub const NOT_RESTORED: u32 = 12;
 
 pub const CHANGED: u32 = 1;
 pub const ROWS: u32 = 2;

@@ -79,6 +79,7 @@ fn failed(status: u32) -> Error {
         ffi::LIMITS => Error::Limits,
         ffi::TOO_LONG => Error::TooLong,
         ffi::IN_TRANSACTION => Error::InTransaction,
+        ffi::NOT_RESTORED => Error::NotRestored,
         ffi::NO_MEMORY => Error::NoMemory,
         ffi::NO_TEMPLATE => Error::NoTemplate,
         other => unreachable!("status {other} of a session that is open"),
@@ -407,8 +408,8 @@ impl Session {
     }
 
     /// The database as scripts that make it again, to be executed one after another in a new session by [`Session::execute_batch`]: each
-    /// table with its constraints and its rows, in creation order, then the triggers. Rows get new numbers. The account of the last
-    /// statement is gone.
+    /// table with its constraints and its rows, in creation order, then the triggers. Rows get new numbers. The scripts were run in a
+    /// database of their own, which was compared with this one.
     ///
     /// ```
     /// # fn main() -> sqlkeep::Result<()> {
@@ -424,7 +425,7 @@ impl Session {
     /// ```
     ///
     /// # Errors
-    /// [`Error::InTransaction`], [`Error::TooLong`] where a row would need a longer script, [`Error::NoMemory`].
+    /// [`Error::InTransaction`], [`Error::TooLong`] where a row would need a longer script, [`Error::NotRestored`], [`Error::NoMemory`].
     pub fn dump(&mut self) -> Result<Vec<String>> {
         let mut count = 0;
         checked(unsafe { ffi::sqlkeep_dump(&mut self.handle, &mut count) })?;
