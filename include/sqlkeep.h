@@ -9,8 +9,8 @@
            sqlkeep_close(&session);
        }
 
-   Every function answers a status, one of enum sqlkeep_status. If it isn't SQLKEEP_OK, nothing was changed, except as sqlkeep_dump
-   says, and no result was written. If it is, the function did what its comment says, and left all else as it was. The comment of a
+   Every function answers a status, one of enum sqlkeep_status. If it isn't SQLKEEP_OK, nothing was changed, and no result
+   was written. If it is, the function did what its comment says, and left all else as it was. The comment of a
    function names each status that it may answer besides SQLKEEP_OK, and says when. SQLKEEP_CLOSED always means that the
    handle or the result is empty, and SQLKEEP_NO_MEMORY that memory was refused; a function whose comment doesn't name this one takes no
    memory, or can do without it, as its comment says. A statement that the database refuses is no failed call: the call
@@ -75,7 +75,9 @@ enum sqlkeep_status {
     /* At some place of the template there is neither a token nor a question mark. */
     SQLKEEP_NO_TEMPLATE = 10,
     /* A transaction is open. */
-    SQLKEEP_IN_TRANSACTION = 11
+    SQLKEEP_IN_TRANSACTION = 11,
+    /* What was written of the database, as a dump, doesn't make the same again. */
+    SQLKEEP_NOT_RESTORED = 12
 };
 
 /* A handle of a session. */
@@ -504,7 +506,7 @@ uint32_t sqlkeep_statement_kind(sqlkeep *handle, size_t at, uint32_t *kind);
 /* Writes the lines of the last outcome as the program does, with this number in front, then those of its account and the name
    that a refusal is about where accounts are asked for, and keeps them for sqlkeep_transcript. It is to be called before the next
    statement is executed; the name is told up to the next sqlkeep_read. The account is told where one was asked for when the
-   outcome was answered, up to the next sqlkeep_explain, sqlkeep_rollback or sqlkeep_dump, which clear it. Before any statement was
+   outcome was answered, up to the next sqlkeep_explain or sqlkeep_rollback, which clear it. Before any statement was
    executed the outcome is `ok`. SQLKEEP_CLOSED, SQLKEEP_NO_MEMORY. */
 uint32_t sqlkeep_lines(sqlkeep *handle, uint64_t number);
 
@@ -626,12 +628,11 @@ uint32_t sqlkeep_trigger_column(sqlkeep *handle, size_t at, size_t place, uint32
    A dump is the whole database as scripts that make it again, to be run one after another in a new session: each table with its
    constraints and then its rows, in creation order, then the triggers. Rows get new numbers. */
 
-/* Writes a dump and keeps it in the handle for sqlkeep_dump_script, in place of the last one. The number of its scripts, at least 1,
-   is written to `scripts`; each has at most 1,048,576 bytes, so that sqlkeep_run can run it. The database stays, and so do the last outcome and
-   the statements that were read; the account of the last statement is gone, and sqlkeep_work tells of the dump. It takes time and memory in
-   proportion to the database.
-   SQLKEEP_CLOSED; SQLKEEP_IN_TRANSACTION: a transaction is open, and nothing changes. SQLKEEP_TOO_LONG: a row would need a
-   longer script; SQLKEEP_NO_MEMORY. With these two the last dump stays, but that account is gone. */
+/* Writes a dump and keeps it in the handle for sqlkeep_dump_script, in place of the last one. Its scripts were run in a database of their
+   own, which was compared with this one. Their number, at least 1, is written to `scripts`; each has at most 1,048,576 bytes, so that
+   sqlkeep_run can run it. Nothing else changes. It takes the time that the scripts take to run, and memory for a second database.
+   SQLKEEP_CLOSED; SQLKEEP_IN_TRANSACTION: a transaction is open. SQLKEEP_TOO_LONG: a row would need a longer script;
+   SQLKEEP_NOT_RESTORED: the scripts don't make the same database again; SQLKEEP_NO_MEMORY. */
 uint32_t sqlkeep_dump(sqlkeep *handle, size_t *scripts);
 
 /* Copies bytes of a script of the last dump, from 0, to the buffer, from byte `from` on, as sqlkeep_transcript does.
@@ -717,8 +718,8 @@ uint32_t sqlkeep_work(sqlkeep *handle, sqlkeep_done *work);
    next look. Their number is written to `count`. SQLKEEP_CLOSED, SQLKEEP_NO_MEMORY. */
 uint32_t sqlkeep_pending(sqlkeep *handle, size_t *count);
 
-/* The number of the row of a violation that was found, and the name of its constraint as far as it fits. It is to be called
-   before the next statement. SQLKEEP_CLOSED; SQLKEEP_NOTHING: there is no violation at this place. */
+/* The number of the row of a violation that was found, and the name of its constraint as far as it fits; sqlkeep_violation_about and
+   sqlkeep_constraint_name give a name of any length. It is to be called before the next statement. SQLKEEP_CLOSED; SQLKEEP_NOTHING: there is no violation at this place. */
 uint32_t sqlkeep_violation(sqlkeep *handle, size_t at, uint64_t *row, uint8_t *buffer, size_t size, size_t *copied);
 
 /* What a violation that was found is about. For a key it looks for the other row among the violations that were found. It is to be
@@ -1066,17 +1067,20 @@ static inline const char *sqlkeep_status_text(uint32_t status) {
         return "the template has another number of question marks than there are values";
     case SQLKEEP_NO_TEMPLATE:
         return "the template has a place with neither a token nor a question mark";
+    case SQLKEEP_IN_TRANSACTION:
+        return "a transaction is open";
+    case SQLKEEP_NOT_RESTORED:
+        return "what was written doesn't make the same again";
     default:
         return "unknown status";
     }
 }
 
-/* ---- a template with its values
+/* ---- a template with its values */
 
-   Reads the statements of a template with these values in place of its question marks, the first for the first, and keeps them
-   as sqlkeep_read does. Values that were bound before are forgotten, and those that are bound here too, whatever the status.
-   SQLKEEP_CLOSED, SQLKEEP_NOT_UTF8, SQLKEEP_NO_MEMORY, SQLKEEP_NO_HANDLE, SQLKEEP_WRONG_COUNT, SQLKEEP_NO_TEMPLATE;
-   SQLKEEP_NOTHING: the kind of a value is none of enum sqlkeep_value_kind. */
+/* Binds a value after those that are bound, by the call for its kind.
+   SQLKEEP_CLOSED, SQLKEEP_NOT_UTF8, SQLKEEP_NO_MEMORY, SQLKEEP_NO_HANDLE;
+   SQLKEEP_NOTHING: the kind of the value is none of enum sqlkeep_value_kind. */
 static inline uint32_t sqlkeep_bind(sqlkeep *handle, const sqlkeep_parameter *value) {
     switch (value->kind) {
     case SQLKEEP_NULL:
@@ -1090,6 +1094,10 @@ static inline uint32_t sqlkeep_bind(sqlkeep *handle, const sqlkeep_parameter *va
     }
 }
 
+/* Reads the statements of a template with these values in place of its question marks, the first for the first, and keeps them
+   as sqlkeep_read does. Values that were bound before are forgotten, and those that are bound here too, whatever the status.
+   SQLKEEP_CLOSED, SQLKEEP_NOT_UTF8, SQLKEEP_NO_MEMORY, SQLKEEP_NO_HANDLE, SQLKEEP_WRONG_COUNT, SQLKEEP_NO_TEMPLATE;
+   SQLKEEP_NOTHING: the kind of a value is none of enum sqlkeep_value_kind. */
 static inline uint32_t sqlkeep_read_filled(sqlkeep *handle, const uint8_t *text, size_t length, const sqlkeep_parameter *values, size_t count, sqlkeep_script *script) {
     uint32_t status = sqlkeep_unbind(handle);
     for (size_t at = 0; status == SQLKEEP_OK && at < count; at++) {

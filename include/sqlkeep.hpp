@@ -170,6 +170,7 @@ inline void check(std::uint32_t status) {
     case SQLKEEP_WRONG_COUNT: throw usage_error("the text has another number of question marks than there are values");
     case SQLKEEP_NO_TEMPLATE: throw usage_error("the text has a character that begins no token, or a text without its end");
     case SQLKEEP_IN_TRANSACTION: throw usage_error("a transaction is open");
+    case SQLKEEP_NOT_RESTORED: throw usage_error("what was written doesn't make the same again");
     default: throw usage_error("the session was moved from");
     }
 }
@@ -185,30 +186,36 @@ inline syntax_error::place place_of(std::string_view text, std::size_t byte) {
 
 inline bool begins(std::string_view text, std::string_view with) { return text.substr(0, with.size()) == with; }
 
-inline bool ends(std::string_view text, std::string_view with) { return text.size() >= with.size() && text.substr(text.size() - with.size()) == with; }
-
-// Whether a line of an account, without its indent, is about the refusal.
-inline bool is_reason(std::string_view line, std::uint32_t cause) {
-    if (cause == SQLKEEP_CAUSE_UNKNOWN) return ends(line, " isn't there");
-    if (cause == SQLKEEP_CAUSE_DUPLICATE) return ends(line, " is there already") || ends(line, " comes twice");
-    if (cause == SQLKEEP_CAUSE_UNKNOWN_SAVEPOINT) return begins(line, "savepoint") || line == "no savepoint stands";
-    for (const char *word : {"insert ", "update ", "delete ", "trigger ", "statement ", "saw "}) {
-        if (begins(line, word)) return false;
+// The lines of what the library writes of a statement. A text stands between quotes, with each of its quotes doubled, so a line feed
+// between quotes is the text's own. The one other quote is that of "isn't there"; before a text no small letter stands.
+inline std::vector<std::string> lines(std::string_view text) {
+    std::vector<std::string> found;
+    std::size_t from = 0;
+    bool is_in_text = false;
+    for (std::size_t at = 0; at < text.size(); at++) {
+        const bool is_of_word = !is_in_text && at >= 3 && text.substr(at - 3, 3) == "isn";
+        if (text[at] == '\'' && !is_of_word) {
+            is_in_text = !is_in_text;
+        } else if (text[at] == '\n' && !is_in_text) {
+            found.emplace_back(text.substr(from, at - from));
+            from = at + 1;
+        }
     }
-    return line.find(": ") != std::string_view::npos || line.find(" is VARCHAR(") != std::string_view::npos || begins(line, "counted so far ")
-        || begins(line, "a transaction has at most ");
+    return found;
 }
 
-// Whether a text begins with the word COMMIT; spaces and comments before it are passed over.
-inline bool begins_with_commit(std::string_view text) {
-    for (;;) {
-        text.remove_prefix(std::min(text.find_first_not_of(" \t\r\n"), text.size()));
-        if (!begins(text, "--")) break;
-        text.remove_prefix(std::min(text.find('\n'), text.size()));
+// Whether a line of an account, without its indent, tells what happened, and not what the refusal is about.
+inline bool is_event(std::string_view line) {
+    for (const char *word : {"insert ", "update ", "delete ", "trigger ", "statement ", "saw "}) {
+        if (begins(line, word)) return true;
     }
-    const std::string_view word = text.substr(0, 6);
-    const std::string_view commit = "COMMIT";
-    return std::equal(word.begin(), word.end(), commit.begin(), commit.end(), [](char a, char b) { return a == b || a == b - 'A' + 'a'; });
+    const std::string_view rest = line.substr(std::min(line.find(' '), line.size()));
+    return begins(rest, " CASCADE on ") || begins(rest, " SET NULL on ") || begins(rest, " SET DEFAULT on ");
+}
+
+// Whether a statement is refused for its text, so that its account has no other lines than the reason.
+inline bool is_of_text(std::uint32_t cause) {
+    return cause <= SQLKEEP_CAUSE_SCHEMA_FAULT || (cause >= SQLKEEP_CAUSE_UNKNOWN_SAVEPOINT && cause <= SQLKEEP_CAUSE_WRONG_SHAPE) || cause == SQLKEEP_CAUSE_LIMIT;
 }
 
 } // namespace detail
@@ -332,11 +339,6 @@ public:
         detail::check(sqlkeep_pending(&handle_, &count));
         std::vector<violation> found(count);
         for (std::size_t at = 0; at < count; at++) {
-            // A name has at most 128 bytes.
-            std::array<std::uint8_t, 128> name;
-            std::size_t length = 0;
-            detail::check(sqlkeep_violation(&handle_, at, &found[at].row, name.data(), name.size(), &length));
-            found[at].constraint.assign(name.begin(), name.begin() + static_cast<std::ptrdiff_t>(length));
             complete(found[at], at);
         }
         return found;
@@ -373,7 +375,7 @@ public:
     }
 
     // The database as scripts that make it again, to be executed one after another in a new session; each ends with a COMMIT or outside a
-    // transaction. usage_error: a transaction is open. The account of the last statement is gone.
+    // transaction. usage_error: a transaction is open, or the scripts, which are run in a database of their own, don't make this one again.
     std::vector<std::string> dump() {
         std::size_t count = 0;
         detail::check(sqlkeep_dump(&handle_, &count));
@@ -390,14 +392,12 @@ public:
         detail::check(sqlkeep_explain(&handle_, asked ? 1 : 0));
     }
 
-    // The account of the last statement, line by line; empty where none was asked for.
+    // The account of the last statement, line by line; empty where none was asked for. A text with a line feed stays in its line.
     std::vector<std::string> account() {
         detail::check(sqlkeep_lines(&handle_, 1));
-        const std::string text = transcript();
-        std::vector<std::string> lines;
-        for (std::size_t from = text.find('\n') + 1; from < text.size(); from = text.find('\n', from) + 1) {
-            if (text[from] == ' ') lines.push_back(text.substr(from, text.find('\n', from) - from));
-        }
+        std::vector<std::string> lines = detail::lines(transcript());
+        lines.erase(lines.begin());
+        lines.erase(std::remove_if(lines.begin(), lines.end(), [](const std::string &line) { return !detail::begins(line, "  "); }), lines.end());
         return lines;
     }
 
@@ -416,6 +416,8 @@ private:
     void complete(violation &it, std::size_t at) {
         sqlkeep_violation_shown about;
         detail::check(sqlkeep_violation_about(&handle_, at, &about));
+        it.constraint = detail::copied([&](auto... where) { return sqlkeep_constraint_name(&handle_, about.constraint, where...); }).value_or("");
+        it.row = about.row;
         if (about.other != 0) it.other = about.other;
         for (std::size_t place = 0; place < about.columns; place++) {
             sqlkeep_cell cell;
@@ -456,7 +458,10 @@ private:
     void bind(const value &it) {
         std::visit([this](const auto &inside) { bind(inside); }, it);
     }
-    void bind(const char *text) { bind(std::string_view(text)); }
+    void bind(const char *text) {
+        if (text == nullptr) throw usage_error("a text is a null pointer; NULL is nullptr or an empty std::optional");
+        bind(std::string_view(text));
+    }
     void bind(const std::string &text) { bind(std::string_view(text)); }
 
     template <typename... Values> std::size_t read(std::string_view text, const Values &...values) {
@@ -500,7 +505,7 @@ private:
             }
         }
         if (count != 1) throw usage_error("the text has " + std::to_string(count) + " statements, and one was wanted");
-        return execute_explained(detail::begins_with_commit(statement));
+        return execute_explained();
     }
 
     sqlkeep_outcome execute_at(std::size_t at) {
@@ -511,18 +516,25 @@ private:
     }
 
     // A refused statement changed nothing, so it is refused the same way when it is executed again, with its account. COMMIT alone rolls
-    // back, and is executed once, with its account.
-    sqlkeep_outcome execute_explained(bool commits) {
-        if (explained_ || commits) {
+    // back, so a statement about transactions is executed once, with its account.
+    sqlkeep_outcome execute_explained() {
+        std::uint32_t kind = 0;
+        detail::check(sqlkeep_statement_kind(&handle_, 0, &kind));
+        if (explained_ || kind == SQLKEEP_TRANSACTION) {
             const asking account(*this, true);
             return execute_at(0);
         }
         sqlkeep_outcome outcome;
         detail::check(sqlkeep_execute(&handle_, 0, &outcome));
         if (outcome.kind != SQLKEEP_REFUSED) return outcome;
-        if (outcome.cause == SQLKEEP_CAUSE_OUT_OF_MEMORY) throw refused(why(outcome, 0));
-        const asking account(*this, true);
-        return execute_at(0);
+        refusal found = why(outcome, 0);
+        if (found.cause != SQLKEEP_CAUSE_OUT_OF_MEMORY) {
+            const asking account(*this, true);
+            detail::check(sqlkeep_execute(&handle_, 0, &outcome));
+            // There may be no memory for the account.
+            if (outcome.cause == found.cause) found = why(outcome, 0);
+        }
+        throw refused(std::move(found));
     }
 
     template <typename Copy> std::optional<std::string> name(Copy copy) {
@@ -542,7 +554,7 @@ private:
         found.statement = statement;
         for (const std::string &line : account()) {
             const std::string text = line.substr(std::min(line.find_first_not_of(' '), line.size()));
-            if (detail::is_reason(text, outcome.cause)) found.reasons.push_back(text);
+            if (detail::is_of_text(outcome.cause) || !detail::is_event(text)) found.reasons.push_back(text);
         }
         return found;
     }
@@ -594,22 +606,39 @@ private:
         return std::string(from, text);
     }
 
+    friend class transaction;
+
     ::sqlkeep handle_ = SQLKEEP_EMPTY;
     bool explained_ = false;
+    // Whether a keep::transaction of this session isn't over.
+    bool has_transaction_ = false;
 };
 
-// A transaction that is rolled back where it isn't committed.
+// A transaction that is rolled back where it isn't committed. The session stays where it is as long, and has no other one.
 class transaction {
 public:
-    explicit transaction(session &of) : of_(&of) {}
+    // usage_error: another transaction of the session isn't over.
+    explicit transaction(session &of) : of_(&of) {
+        if (of.has_transaction_) throw usage_error("another transaction of the session isn't over");
+        of.has_transaction_ = true;
+    }
     transaction(const transaction &) = delete;
     transaction &operator=(const transaction &) = delete;
     ~transaction() {
-        if (of_ != nullptr) sqlkeep_rollback(of_->handle());
+        if (of_ != nullptr) sqlkeep_rollback(end()->handle());
     }
-    void commit() { std::exchange(of_, nullptr)->commit(); }
+    // usage_error: the transaction is over.
+    void commit() {
+        if (of_ == nullptr) throw usage_error("the transaction is over");
+        end()->commit();
+    }
 
 private:
+    session *end() noexcept {
+        of_->has_transaction_ = false;
+        return std::exchange(of_, nullptr);
+    }
+
     session *of_;
 };
 

@@ -71,6 +71,17 @@ export function entriesOf(lines) {
   return root;
 }
 
+/**
+ * The violations that an account tells: the constraint as its line names it, and what is the matter with which row.
+ * @param {string[]} lines
+ */
+export function violationsOf(lines) {
+  return lines.map((line) => line.trimStart()).filter((line) => VIOLATION.test(line)).map((line) => {
+    const at = line.indexOf(": ");
+    return { constraint: line.slice(0, at), matter: line.slice(at + 2) };
+  });
+}
+
 // Puts an entry where it belongs: into the statement of a body that is open, or into a trigger.
 function place(entry, depth, open) {
   const level = open.at(-1);

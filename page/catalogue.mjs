@@ -4,7 +4,7 @@
  * @typedef {{name: string, type: "INTEGER" | "VARCHAR", length: number | null, default: import("./account.mjs").Value}} Column
  * @typedef {{name: string, columns: Column[]}} Table
  * @typedef {{name: string, table: string, kind: "NOT NULL" | "CHECK" | "UNIQUE" | "PRIMARY KEY" | "FOREIGN KEY", columns: string[],
- *     isDeferrable: boolean, isInitiallyDeferred: boolean, nullsNotDistinct: boolean, referenced: string | null, referencedColumns: string[],
+ *     isDeferrable: boolean, isInitiallyDeferred: boolean, isDeferred: boolean, nullsNotDistinct: boolean, referenced: string | null, referencedColumns: string[],
  *     isMatchFull: boolean, onDelete: string | null, onUpdate: string | null, condition: string | null}} Constraint
  * @typedef {{name: string, table: string, time: "BEFORE" | "AFTER", event: "INSERT" | "UPDATE" | "DELETE", forEach: "ROW" | "STATEMENT",
  *     columns: string[], statements: number}} Trigger
@@ -62,7 +62,7 @@ function constraintAt(port, at, tables) {
   return {
     name: port.text("sqlkeep_constraint_name", BigInt(at)), table: table.name, kind: KINDS[kind],
     columns: namesBy(port, "sqlkeep_constraint_column", at, count, table),
-    isDeferrable: deferrable === 1, isInitiallyDeferred: deferred === 1, nullsNotDistinct: nulls === 1,
+    isDeferrable: deferrable === 1, isInitiallyDeferred: deferred === 1, isDeferred: port.ask("sqlkeep_constraint_mode", BigInt(at)).getUint32(0, true) === 1, nullsNotDistinct: nulls === 1,
     referenced: isForeign ? tables[referenced].name : null,
     referencedColumns: isForeign ? namesBy(port, "sqlkeep_referenced_column", at, count, tables[referenced]) : [],
     isMatchFull: full === 1, onDelete: isForeign ? ACTIONS[onDelete] : null, onUpdate: isForeign ? ACTIONS[onUpdate] : null,

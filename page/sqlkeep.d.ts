@@ -170,6 +170,8 @@ export interface Constraint {
   columns: string[];
   isDeferrable: boolean;
   isInitiallyDeferred: boolean;
+  /** Whether its mode is deferred now: SET CONSTRAINTS sets it, and at the end of the transaction it is the initial one again. */
+  isDeferred: boolean;
   nullsNotDistinct: boolean;
   /** The table and the columns that a foreign key refers to. */
   referenced: string | null;
@@ -233,9 +235,13 @@ export class SyntaxFault extends Error implements Fault {
   word: number;
   end: number;
   isCut: boolean;
+  /** The line and the column, in characters, of the first word that can't stand where it does, from 1; and that word, empty if none begins there. */
+  line: number;
+  column: number;
+  text: string;
 }
 
-/** A statement that was refused. */
+/** A statement that was refused. Its message is a sentence: the name of the cause, what it is of, and why. */
 export class Refusal extends Error implements Refused {
   cause: number;
   reason: string;
@@ -255,24 +261,32 @@ export class Engine {
 export class Session {
   explain(asked?: boolean): void;
   run(script: string | Uint8Array): Summary;
-  execute(text: string | Uint8Array, values?: Value[]): Outcome[];
-  steps(text: string | Uint8Array, values?: Value[]): Generator<Outcome>;
-  read(text: string | Uint8Array, values?: Value[]): { statements: number; faultAt: number | null };
+  execute(text: string | Uint8Array, values?: readonly Value[]): Outcome[];
+  steps(text: string | Uint8Array, values?: readonly Value[]): Generator<Outcome>;
+  read(text: string | Uint8Array, values?: readonly Value[]): { statements: number; faultAt: number | null };
   readonly fault: Fault | null;
-  place(at: number): Span | null;
+  place(at: number | bigint): Span | null;
   readonly message: string;
-  attempt(at: number, number?: number): Attempt;
-  query(text: string | Uint8Array, values?: Value[]): Value[][];
+  attempt(at: number | bigint, number?: number | bigint): Attempt;
+  query(text: string | Uint8Array, values?: readonly Value[]): Value[][];
   readonly account: Entry[];
   catalogue(): Catalogue;
   dump(): string[];
   commit(): void;
   rollback(): void;
+  /** The name is folded to upper case. */
   rollbackTo(name: string): void;
   readonly inTransaction: boolean;
   pending(): Violation[];
   work(): Work;
   close(): void;
+  [Symbol.dispose](): void;
+}
+
+declare global {
+  interface SymbolConstructor {
+    readonly dispose: unique symbol;
+  }
 }
 
 /** Makes an engine of the bytes of sqlkeep.wasm, or of a module that was compiled of them. */

@@ -5,17 +5,22 @@
 //     engine.run("COMMIT;").transcript;          // a whole script, as the program writes it
 //     const session = engine.open();
 //     session.execute("CREATE TABLE t (a INT PRIMARY KEY);");
-//     session.query("SELECT a FROM t;");         // [[1], [2]]
+//     session.query("SELECT a FROM t");          // [[1], [2]]
 //
 // Values are null, numbers, BigInts where a number isn't exact, and strings. A statement that is refused throws a Refusal. Numbers and
 // addresses of 64 bits cross to the module as BigInts; its memory has addresses of 32 bits.
 
 import { entriesOf, linesOf } from "./account.mjs";
 import { readCatalogue } from "./catalogue.mjs";
+import { placeIn, testedFlag, testedNumber, testedOptions, testedText, testedValues, textOf, textOfParts } from "./given.mjs";
+import { sentenceOf } from "./refusal.mjs";
 
-const OK = 0, CLOSED = 1, LIMITS = 3, NOT_UTF8 = 4, TOO_LONG = 5, NO_MEMORY = 6, NOTHING = 7, WRONG_COUNT = 9, NO_TEMPLATE = 10, IN_TRANSACTION = 11;
+const OK = 0, CLOSED = 1, LIMITS = 3, NOT_UTF8 = 4, TOO_LONG = 5, NO_MEMORY = 6, NOTHING = 7, WRONG_COUNT = 9, NO_TEMPLATE = 10, IN_TRANSACTION = 11, NOT_RESTORED = 12;
 const CHANGED = 1, ROWS = 2, REFUSED = 3;
+const TRANSACTION = 3, SIGNAL = 15, OUT_OF_MEMORY = 22;
 const NULL = 0, INTEGER = 1;
+// What may be missing behind a statement; it may end in a comment.
+const SEMICOLON = new TextEncoder().encode("\n;");
 const HANDLE_BYTES = 16, RESULT_BYTES = 64, BUFFER_BYTES = 1 << 16;
 
 const WORDS = new Map([
@@ -28,6 +33,7 @@ const WORDS = new Map([
   [WRONG_COUNT, "the template has another number of question marks than there are values"],
   [NO_TEMPLATE, "the template has something that is neither a token nor a question mark"],
   [IN_TRANSACTION, "a transaction is open"],
+  [NOT_RESTORED, "what was written doesn't make the same again"],
 ]);
 
 /** A call that could not be made; `status` is that of the library for C. */
@@ -39,19 +45,24 @@ export class EngineError extends Error {
   }
 }
 
-/** A text with something that is no statement: it begins at byte `at`, and the first word that can't stand where it does at byte `word`. */
+/**
+ * A text with something that is no statement. It begins at byte `at`; the first word that can't stand where it does is `text`, at byte `word`,
+ * at this `line` and `column`.
+ */
 export class SyntaxFault extends Error {
-  constructor(fault) {
-    super(`no statement at byte ${fault.at}: ${fault.isCut ? "the text ends within it" : `wrong word at byte ${fault.word}`}`);
+  constructor(fault, bytes) {
+    const begin = placeIn(bytes, fault.at), word = placeIn(bytes, fault.word), text = textOf(bytes.subarray(fault.word, fault.end));
+    const wrong = text === "" ? "no word begins" : `wrong word ${JSON.stringify([...text].slice(0, 60).join(""))}`;
+    super(`no statement at line ${begin.line}, column ${begin.column}: ${fault.isCut ? "the text ends within it" : `${wrong} at line ${word.line}, column ${word.column}`}`);
     this.name = "SyntaxFault";
-    Object.assign(this, fault);
+    Object.assign(this, fault, word, { text });
   }
 }
 
 /** A statement that was refused. `lines` are those of the program, with its account where one is asked for. */
 export class Refusal extends Error {
-  constructor(outcome) {
-    super(linesOf(outcome.lines)[0].replace(/^\d+ refused /, ""));
+  constructor(outcome, sentence) {
+    super(sentence);
     this.name = "Refusal";
     Object.assign(this, outcome);
   }
@@ -81,7 +92,11 @@ export class Engine {
   }
 
   /** A database without tables. Triggers may nest `depth` deep, and a statement may make `changes` row changes. */
-  open({ depth = 16, changes = 65536, explain = false } = {}) {
+  open(options = {}) {
+    const { depth, changes, explain } = testedOptions(options);
+    if (depth < 1 || depth > 64 || changes < 1 || changes > 65536) {
+      throw new EngineError(WORDS.get(LIMITS), LIMITS);
+    }
     return new Session(new WebAssembly.Instance(this.#module, {}), depth, changes, explain);
   }
 
@@ -104,7 +119,10 @@ export class Session {
   #buffer;
   #trapped = false;
   #isOpen = false;
+  #isExplained = false;
   #account = [];
+  // How many texts were read: another number tells that the statements of another text are there.
+  #textsRead = 0;
 
   constructor(instance, depth, changes, explain) {
     this.#exports = instance.exports;
@@ -118,46 +136,110 @@ export class Session {
 
   /** From now on an account of each statement is asked for, or isn't. */
   explain(asked = true) {
-    this.#ask("sqlkeep_explain", asked ? 1 : 0);
+    this.#ask("sqlkeep_explain", testedFlag(asked) ? 1 : 0);
+    this.#isExplained = asked;
   }
 
   /** Runs a whole script in a new database, with the limits of this session, and leaves the session as it is. */
   run(script) {
-    this.#withText(script, (at, length) => this.#ask("sqlkeep_run", at, length, this.#result));
+    this.#withBytes(testedText(script), (at, length) => this.#ask("sqlkeep_run", at, length, this.#result));
     const [accepted, refused, memoryRefused, hasFault, faultAt] = [0, 1, 2, 3, 4].map((place) => this.#number(place));
     return { accepted, refused, memoryRefused, faultAt: hasFault ? faultAt : null, transcript: this.#transcript() };
   }
 
   /**
-   * Executes the statements of a text, and gives the outcome of each. The first that is refused throws a Refusal. Where values are given,
-   * the text is a template: each question mark stands for a value.
+   * Executes the statements of a text, and gives the outcome of each. The first that is refused throws a Refusal. The semicolon of a single
+   * statement may be left out. Where values are given, the text is a template: each question mark stands for a value.
    */
   execute(text, values) {
     return [...this.steps(text, values)];
   }
 
-  /** So one after the other: the next is executed when it is asked for. Where the text has a fault nothing is executed. */
+  /**
+   * So one after the other: the next is executed when it is asked for, whatever else the session does in between. Where the text has a fault
+   * nothing is executed.
+   */
   *steps(text, values) {
-    const { statements, faultAt } = this.read(text, values);
-    if (faultAt !== null) {
-      throw new SyntaxFault(this.fault);
-    }
-    for (let at = 0; at < statements; at++) {
-      const outcome = this.attempt(at);
-      if (outcome.kind === "refused") {
-        throw new Refusal(outcome);
+    const given = testedValues(values), whole = this.#readWhole(testedText(text), given);
+    let read = this.#textsRead;
+    for (let at = 0; at < whole.statements; at++) {
+      if (read !== this.#textsRead) {
+        this.#read(whole.bytes, given);
+        read = this.#textsRead;
       }
-      yield outcome;
+      yield this.#step(at, whole.statements > 1 ? `statement ${at + 1}: ` : "");
+    }
+  }
+
+  // Reads a text of whole statements, with the semicolon that a single one may want.
+  #readWhole(bytes, values) {
+    const read = this.#read(bytes, values);
+    if (read.faultAt === null) {
+      return { bytes, statements: read.statements };
+    }
+    const fault = new SyntaxFault(this.fault, bytes);
+    if (fault.isCut && read.statements === 0) {
+      const ended = new Uint8Array(bytes.length + SEMICOLON.length);
+      ended.set(bytes);
+      ended.set(SEMICOLON, bytes.length);
+      const again = this.#read(ended, values);
+      if (again.faultAt === null && again.statements === 1) {
+        return { bytes: ended, statements: 1 };
+      }
+      this.#read(bytes, values);
+    }
+    throw fault;
+  }
+
+  // Executes a statement that was read. One about transactions has its account at once, since COMMIT rolls back.
+  #step(at, place) {
+    this.#ask("sqlkeep_statement_kind", BigInt(at), this.#result);
+    const isOfTransactions = this.#view.getUint32(Number(this.#result), true) === TRANSACTION;
+    return this.#accepted(() => this.attempt(at), isOfTransactions, place);
+  }
+
+  // Executes, and throws a refusal with its sentence. What is refused changed nothing, so it is refused in the same way once more, with its
+  // account, where it had none.
+  #accepted(execute, isTold, place = "") {
+    const outcome = isTold ? this.#withAccount(execute) : execute();
+    let lines = this.#account;
+    if (outcome.kind === "refused" && !isTold && !this.#isExplained && outcome.cause !== OUT_OF_MEMORY) {
+      // There may be no memory for the account.
+      lines = this.#withAccount(execute).cause === outcome.cause ? this.#account : [];
+    }
+    if (!this.#isExplained) {
+      this.#account = [];
+    }
+    if (outcome.kind !== "refused") {
+      return outcome;
+    }
+    const shown = this.#isExplained ? outcome.lines : `${linesOf(outcome.lines)[0]}\n`;
+    throw new Refusal({ ...outcome, lines: shown }, place + sentenceOf(outcome, lines));
+  }
+
+  #withAccount(execute) {
+    this.#ask("sqlkeep_explain", 1);
+    try {
+      return execute();
+    } finally {
+      if (!this.#isExplained && !this.#trapped) {
+        this.#ask("sqlkeep_explain", 0);
+      }
     }
   }
 
   /** Reads a text and executes nothing. The statements stay until the next text is read. */
   read(text, values) {
+    return this.#read(testedText(text), testedValues(values));
+  }
+
+  #read(bytes, values) {
     if (values !== undefined) {
       this.#bind(values);
     }
     const call = values === undefined ? "sqlkeep_read" : "sqlkeep_read_bound";
-    this.#withText(text, (at, length) => this.#ask(call, at, length, this.#result));
+    this.#withBytes(bytes, (at, length) => this.#ask(call, at, length, this.#result));
+    this.#textsRead += 1;
     const [statements, hasFault, faultAt] = [0, 1, 2].map((place) => this.#number(place));
     return { statements, faultAt: hasFault ? faultAt : null };
   }
@@ -182,7 +264,7 @@ export class Session {
   /** Where the statement at this place, from 0, is in the text that was read last, in bytes; null if there are fewer statements. */
   place(at) {
     try {
-      this.#ask("sqlkeep_statement_place", BigInt(at), this.#result);
+      this.#ask("sqlkeep_statement_place", testedNumber(at), this.#result);
     } catch (error) {
       if (error.status === NOTHING) {
         return null;
@@ -198,24 +280,23 @@ export class Session {
   }
 
   /** Executes the statement at this place, from 0, of the text that was read last. A refusal is an outcome of kind "refused". */
-  attempt(at, number = at + 1) {
-    this.#ask("sqlkeep_execute", BigInt(at), this.#result);
-    return this.#outcome(number);
+  attempt(at, number) {
+    const place = testedNumber(at), told = number === undefined ? place + 1n : testedNumber(number);
+    this.#ask("sqlkeep_execute", place, this.#result);
+    return this.#outcome(told);
   }
 
-  // Each value is tested before any is bound, so that none is changed on its way: a number has to be exact, and a text to be UTF-16.
   #bind(values) {
-    const exact = values.map(tested);
     this.#ask("sqlkeep_unbind");
-    exact.forEach((value) => {
+    for (const value of values) {
       if (value === null) {
         this.#ask("sqlkeep_bind_null");
       } else if (typeof value === "bigint") {
         this.#ask("sqlkeep_bind_integer", value);
       } else {
-        this.#withText(value, (at, length) => this.#ask("sqlkeep_bind_text", at, length));
+        this.#withBytes(value, (at, length) => this.#ask("sqlkeep_bind_text", at, length));
       }
-    });
+    }
   }
 
   /** The account of the last statement, as objects; empty where no account is asked for. */
@@ -246,7 +327,7 @@ export class Session {
 
   /**
    * The database as scripts that make it again, to be executed one after another in a new session. It throws an EngineError where a
-   * transaction is open. The account of the last statement is gone.
+   * transaction is open, or where the scripts, which are run in a database of their own, don't make this one again.
    */
   dump() {
     this.#ask("sqlkeep_dump", this.#result);
@@ -255,8 +336,10 @@ export class Session {
 
   /** COMMIT. */
   commit() {
-    this.#ask("sqlkeep_commit", this.#result);
-    this.#accepted();
+    this.#accepted(() => {
+      this.#ask("sqlkeep_commit", this.#result);
+      return this.#outcome(1n);
+    }, true);
   }
 
   /** ROLLBACK. */
@@ -264,10 +347,13 @@ export class Session {
     this.#ask("sqlkeep_rollback");
   }
 
-  /** ROLLBACK TO SAVEPOINT, with the name as it is folded, in upper case. */
+  /** ROLLBACK TO SAVEPOINT. The name is folded to upper case, as a statement's. */
   rollbackTo(name) {
-    this.#withText(name, (at, length) => this.#ask("sqlkeep_rollback_to", at, length, this.#result));
-    this.#accepted();
+    const folded = testedText(name).map((byte) => (byte >= 97 && byte <= 122 ? byte - 32 : byte));
+    this.#accepted(() => {
+      this.#withBytes(folded, (at, length) => this.#ask("sqlkeep_rollback_to", at, length, this.#result));
+      return this.#outcome(1n);
+    }, true);
   }
 
   get inTransaction() {
@@ -284,10 +370,9 @@ export class Session {
 
   // A violation that was found: the row has these values in the columns of the constraint, and the other row has them too.
   #violation(at) {
-    this.#ask("sqlkeep_violation", at, this.#result, this.#buffer, BigInt(BUFFER_BYTES), this.#result + 8n);
-    const constraint = new TextDecoder().decode(this.#bytes(this.#buffer, this.#number(1)));
     this.#ask("sqlkeep_violation_about", at, this.#result);
-    const [columns, row, other] = [1, 2, 3].map((place) => this.#number(place));
+    const named = this.#view.getUint32(Number(this.#result), true), [columns, row, other] = [1, 2, 3].map((place) => this.#number(place));
+    const constraint = this.#pieces("sqlkeep_constraint_name", BigInt(named));
     const key = Array.from({ length: columns }, (_, place) => this.#value("sqlkeep_violation_value", "sqlkeep_violation_text", at, BigInt(place)));
     return { row, constraint, key, other: other || null };
   }
@@ -351,8 +436,7 @@ export class Session {
     }
   }
 
-  #withText(text, ask) {
-    const bytes = typeof text === "string" ? new TextEncoder().encode(text) : text;
+  #withBytes(bytes, ask) {
     const at = this.#alloc(bytes.length || 1);
     try {
       this.#bytes(at, bytes.length).set(bytes);
@@ -366,16 +450,14 @@ export class Session {
 
   // A text that a call gives in pieces.
   #pieces(name, ...words) {
-    const decoder = new TextDecoder();
-    let whole = "";
-    for (let from = 0n; ; ) {
+    return textOfParts(this.#parts(name, words));
+  }
+
+  *#parts(name, words) {
+    for (let from = 0n, length = 1; length > 0; from += BigInt(length)) {
       this.#ask(name, ...words, from, this.#buffer, BigInt(BUFFER_BYTES), this.#result);
-      const length = this.#number(0);
-      if (length === 0) {
-        return whole + decoder.decode();
-      }
-      whole += decoder.decode(this.#bytes(this.#buffer, length), { stream: true });
-      from += BigInt(length);
+      length = this.#number(0);
+      yield this.#bytes(this.#buffer, length);
     }
   }
 
@@ -383,23 +465,17 @@ export class Session {
     return this.#pieces("sqlkeep_transcript");
   }
 
-  #accepted() {
-    const outcome = this.#outcome(1);
-    if (outcome.kind === "refused") {
-      throw new Refusal(outcome);
-    }
-  }
-
   // What a statement answered, with its lines.
   #outcome(number) {
     const view = this.#view, at = Number(this.#result);
     const kind = view.getUint32(at, true), cause = view.getUint32(at + 4, true), count = this.#number(1), row = this.#number(2);
-    this.#ask("sqlkeep_lines", BigInt(number));
+    this.#ask("sqlkeep_lines", number);
     const lines = this.#transcript();
     this.#account = kind === ROWS ? [] : linesOf(lines).slice(1);
     if (kind === REFUSED) {
-      const [constraint, trigger, signal] = ["constraint", "trigger", "signal"].map((what) => this.#pieces("sqlkeep_" + what) || null);
-      return { kind: "refused", cause, reason: this.#pieces("sqlkeep_cause"), constraint, trigger, signal, row: row || null, lines, number };
+      const [constraint, trigger] = ["constraint", "trigger"].map((what) => this.#pieces("sqlkeep_" + what) || null);
+      const signal = cause === SIGNAL ? this.#pieces("sqlkeep_signal") : null;
+      return { kind: "refused", cause, reason: this.#pieces("sqlkeep_cause"), constraint, trigger, signal, row: row || null, lines, number: Number(number) };
     }
     if (kind === ROWS) {
       return { kind: "rows", count, columns: this.#columns(), rows: this.#rows(count), lines };
@@ -432,22 +508,4 @@ export class Session {
     }
     return this.#pieces(text, ...place);
   }
-}
-
-// A value that can be bound as it is: null, a BigInt of 64 bits, or a text.
-function tested(value) {
-  if (value === null || (typeof value === "string" && !/\p{Surrogate}/u.test(value))) {
-    return value;
-  }
-  if (typeof value === "string") {
-    throw new TypeError("a text has half of a character");
-  }
-  if (typeof value !== "bigint" && !Number.isSafeInteger(value)) {
-    throw new TypeError(`${typeof value === "number" ? value : `a value of type ${typeof value}`} is none: null, an exact integer, a BigInt or a string is one`);
-  }
-  const integer = BigInt(value);
-  if (BigInt.asIntN(64, integer) !== integer) {
-    throw new RangeError(`${integer} has more than 64 bits`);
-  }
-  return integer;
 }

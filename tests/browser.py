@@ -1,6 +1,6 @@
 #!/usr/bin/env python3
-"""Tries the page in Chromium: every script of the tests and examples through its engine, what the page does (browser_page.py), how fast it
-starts and how much it weighs.
+"""Tries the page in Chromium: every script of the tests and examples through its engine, what the page does (browser_page.py and
+browser_scripts.py), how fast it starts and how much it weighs.
 
   tests/browser.py --library FOLDER              FOLDER has sqlkeep.html, as `./build --page` leaves it in out/
   tests/browser.py --library FOLDER --only WORD  the tests of the page alone that have this word in their names
@@ -23,7 +23,7 @@ HERE = Path(__file__).resolve().parent
 ROOT = HERE.parent
 sys.dont_write_bytecode = True
 sys.path[:0] = [str(HERE), str(ROOT / "page")]
-import browser_page
+import browser_scripts
 import bundle
 import documents
 import javascript
@@ -72,6 +72,13 @@ class Page:
 
     def open(self, address="", file=None):
         self.browser.open((file or self.file).as_uri() + address)
+        self.ready()
+
+    def reload(self):
+        self.browser.reload()
+        self.ready()
+
+    def ready(self):
         self.browser.wait(lambda: self.browser.script("return document.documentElement.dataset.ready"), "the page")
         self.idle()
 
@@ -365,7 +372,7 @@ def pictures(page):
 
 
 def all_tests(page, only):
-    chosen = [each for each in [weight, start, *browser_page.TESTS] if only is None or only in each.__name__]
+    chosen = [each for each in [weight, start, *browser_scripts.TESTS] if only is None or only in each.__name__]
     results = [tried(function, page) for function in chosen]
     passed, failed = sum(results), len(results) - sum(results)
     for through in [] if only is not None else [scripts_through, scripts_by_steps]:

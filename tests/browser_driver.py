@@ -68,8 +68,13 @@ class Browser:
         return self.call("POST", "/goog/cdp/execute", {"cmd": name, "params": words})
 
     def open(self, address):
+        """Opens an address, in a browser that has kept nothing."""
         self.call("POST", "/url", {"url": "about:blank"})
+        self.command("Storage.clearDataForOrigin", origin="file://", storageTypes="local_storage")
         self.call("POST", "/url", {"url": address})
+
+    def reload(self):
+        self.call("POST", "/refresh", {})
 
     def script(self, text, *words):
         return self.call("POST", "/execute/sync", {"script": text, "args": list(words)})

@@ -3,12 +3,24 @@ import re
 import time
 from pathlib import Path
 
-import documents
-import links
-
 ROOT = Path(__file__).resolve().parent.parent
 TESTS = []
 LINE_OF_ANSWER = re.compile(r"^\d+ (?:ok|rows|refused|fault)\b.*$", re.M)
+
+
+# The words of the panes whose letters stand in more than one line.
+BROKEN_WORDS = """
+    const found = [], texts = document.createTreeWalker(document.body, NodeFilter.SHOW_TEXT, (node) => node.parentElement.closest('.editor, select, script, style, pre') ? NodeFilter.FILTER_REJECT : NodeFilter.FILTER_ACCEPT);
+    while (texts.nextNode()) {
+        for (const word of texts.currentNode.data.matchAll(/[\\p{L}\\d]+/gu)) {
+            const range = document.createRange();
+            range.setStart(texts.currentNode, word.index);
+            range.setEnd(texts.currentNode, word.index + word[0].length);
+            if (new Set([...range.getClientRects()].map((box) => Math.round(box.top))).size > 1) { found.push(word[0]); }
+        }
+    }
+    return found;
+"""
 
 
 def test(function):
@@ -179,7 +191,20 @@ def a_fault_is_marked_at_its_line(page):
     equal(page.lines(), ["1 ok", "2 fault 8"])
     equal([page.texts(".line.fault"), page.joined(".faulty")], [["SELEKT;"], "SELEKT;"])
     equal(page.texts("#said .why")[0], "No statement begins at line 2, column 1: SELEKT;")
+    assert page.texts("#said .why")[1].startswith("The first word that can't stand where it does is at line 2, column 1: SELEKT; wanted "), page.texts("#said .why")
     assert page.text("#status").endswith("No statement begins at line 2, column 1."), page.text("#status")
+
+
+@test
+def a_fault_says_what_is_known_of_it(page):
+    """The words are those of docs/language/mistakes.md and of the grammar: behind FROM stands the name of a table."""
+    for script, wanted in (
+        ("COMMIT;\nSELECT * FROM a\n  JOIN b;", "The first word that can't stand where it does is at line 3, column 8: JOIN isn't in this language."),
+        ("SELECT a FROM 7;", "The first word that can't stand where it does is at line 1, column 15: 7; wanted a name."),
+        ("SELECT a FROM ", "The script ends within that statement at line 1, column 15: the end of the text; wanted a name."),
+    ):
+        page.run_script(script)
+        equal(page.texts("#said .why")[1], wanted)
 
 
 @test
@@ -248,7 +273,7 @@ def a_query_without_rows_has_heads(page):
 @test
 def a_refusal_says_what_it_means(page):
     page.run_script("SELECT * FROM nowhere;")
-    equal(page.texts("#said .why")[0], "Table NOWHERE isn't there. A name in the statement names nothing. The statement changed nothing.")
+    equal(page.texts("#said .why")[0], "Table NOWHERE isn't there. A name names nothing. The statement changed nothing.")
 
 
 @test
@@ -353,7 +378,7 @@ def a_violating_row_is_shown_with_its_condition(page):
     page.open("#e=first&n=3")
     equal(page.count("#picture .row.violating"), 1)
     words = page.texts("#picture svg text")
-    assert {"KNOWN", "CHECK", "number > 0 is false", "row 2"} <= set(words), words
+    assert {"KNOWN", "CHECK", "NUMBER > 0 is false", "row 2"} <= set(words), words
     equal(page.texts("#picture .row.hit title"), ["insert ACCOUNT row 2 (-1, 50)"])
 
 
@@ -393,7 +418,7 @@ def a_statement_trigger_shows_the_rows_that_it_saw(page):
 def a_refused_commit_shows_what_went_back(page):
     page.open("#e=first&n=6")
     words = page.texts("#picture svg text")
-    assert {"What went back", "gone 1", "gone 2", "SOLVENT", "balance >= 0 is false"} <= set(words), words
+    assert {"What went back", "gone 1", "gone 2", "SOLVENT", "BALANCE >= 0 is false"} <= set(words), words
 
 
 @test
@@ -441,7 +466,27 @@ def waiting_constraints_fill_and_empty(page):
     for number in (8, 9, 10):
         page.open(f"#e=rings&n={number}")
         found[number] = page.texts(".waiting li li")
-    equal(found, {8: ["PLAYER row 3 (8, 2)", "PLAYER row 4 (9, 3)"], 9: ["PLAYER row 4 (9, 3)"], 10: []})
+    third, fourth = (f"PLAYER row {row} ({number}, {team}) refers to TEAM ({team}), which isn't there" for row, number, team in ((3, 8, 2), (4, 9, 3)))
+    equal(found, {8: [third, fourth], 9: [fourth], 10: []})
+
+
+@test
+def a_waiting_row_has_its_reason(page):
+    page.run_script("CREATE TABLE p (a INT, b INT, UNIQUE (a, b));\nCREATE TABLE t (k INT CONSTRAINT one PRIMARY KEY INITIALLY DEFERRED, a INT, b INT CONSTRAINT some CHECK (b > 0) INITIALLY DEFERRED,\n"
+                    "    CONSTRAINT both FOREIGN KEY (a, b) REFERENCES p (a, b) MATCH FULL INITIALLY DEFERRED);\nINSERT INTO t VALUES (7, NULL, 1), (7, NULL, NULL), (NULL, 2, 0);")
+    equal(page.texts(".waiting li li"), [
+        "T row 1 (7, NULL, 1) has the key of row 2", "T row 2 (7, NULL, NULL) has the key of row 1", "T row 3 (NULL, 2, 0) has a null in its key", "T row 3 (NULL, 2, 0) makes B > 0 false",
+        "T row 1 (7, NULL, 1) has some nulls in its key", "T row 3 (NULL, 2, 0) refers to P (2, 0), which isn't there"])
+    assert page.texts(".waiting .mode")[0].endswith("COMMIT would be refused:"), page.texts(".waiting .mode")[0]
+
+
+@test
+def words_are_not_broken(page):
+    """At no width a word of a pane goes over two lines, except in code, which may be long."""
+    for width, name in ((1280, "rings&n=8"), (400, "rings&n=8"), (1280, "savepoints&n=12"), (400, "first&n=6"), (400, "nulls&n=6"), (400, "guards&n=11")):
+        page.browser.size(width, 900)
+        page.open(f"#e={name}")
+        equal([width, name, page.browser.script(BROKEN_WORDS)], [width, name, []])
 
 
 @test
@@ -469,117 +514,6 @@ def the_schema_is_a_diagram(page):
     equal(page.count("#diagram .arrow"), 4)
 
 
-# ---- scripts that come and go
-
-
-@test
-def limits_are_those_of_the_fields(page):
-    page.open("#cascades&n=11")
-    page.fill("#changes", "5")
-    equal([page.lines(), page.text("#status")], [[], "The limits were changed: run the script again."])
-    page.click("#run")
-    equal(page.lines()[10], "11 refused 17 TooManyChanges")
-    page.fill("#changes", "7")
-    page.click("#run")
-    equal(page.lines()[10], "11 ok 1")
-
-
-@test
-def a_limit_out_of_range_is_put_back(page):
-    page.open()
-    for field, value, why in (("#depth", "65", "The depth of triggers is a number from 1 to 64."), ("#changes", "0", "The number of row changes is a number from 1 to 65,536."), ("#depth", "1.5", "The depth of triggers is a number from 1 to 64.")):
-        page.fill(field, value)
-        equal([page.text("#status"), page.value("#depth"), page.value("#changes"), len(page.lines())], [why, "16", "65536", 10])
-
-
-@test
-def limits_go_with_a_shared_address(page):
-    page.run_script("CREATE TABLE t (a INT); INSERT INTO t VALUES (1), (2);")
-    page.fill("#changes", "2")
-    page.click("#run")
-    page.click("#share")
-    page.browser.wait(lambda: page.browser.script("return location.hash").startswith("#s="), "the address")
-    address = page.browser.script("return location.hash")
-    assert address.endswith("&changes=2"), address
-    page.open(address)
-    equal([page.value("#changes"), page.lines()], ["2", ["1 ok", "2 refused 17 TooManyChanges"]])
-
-
-@test
-def scripts_of_the_language_are_opened_by_name(page):
-    count = 0
-    for _, _, scripts in documents.pages():
-        for each in scripts:
-            page.open(f"#{each['name']}")
-            wanted = LINE_OF_ANSWER.findall(each["transcript"])
-            equal([each["name"], page.value("#script"), page.value("#example"), page.lines()], [each["name"], each["script"], each["name"], wanted])
-            count += 1
-    page.note(f"{count} scripts of docs/language were opened by their names")
-
-
-@test
-def links_lead_to_their_scripts(page):
-    for file, _, scripts in documents.pages():
-        text = links.linked(file)
-        equal(links.OLD.findall(text), [f"\n[in the page](../../out/sqlkeep.html#{each['name']})\n" for each in scripts])
-        equal(links.OLD.sub("", text), links.OLD.sub("", file.read_text("utf-8")))
-
-
-@test
-def a_name_that_is_not_there_is_told(page):
-    page.open("#tables-99")
-    equal([page.text("#status"), len(page.lines())], ["This address holds no script: there is none of the name tables-99.", 10])
-
-
-@test
-def a_shared_address_brings_the_script_back(page):
-    page.run_script("CREATE TABLE t (a VARCHAR(9));\nINSERT INTO t VALUES ('é 三 \U0001f600');\nCOMMIT;\n")
-    page.click("#answer-2")
-    page.click("#share")
-    page.browser.wait(lambda: page.browser.script("return location.hash").startswith("#s="), "the address")
-    address, script = page.browser.script("return [location.hash, document.getElementById('script').value]")
-    assert re.fullmatch(r"#s=[\w-]+&n=2", address), address
-    page.open(address)
-    equal([page.value("#script"), page.text("#statement-head")], [script, "Statement 2 of 3"])
-
-
-@test
-def a_damaged_address_is_told(page):
-    for address, why in (("#s=AAAA", "the script in the address is damaged or cut off"), ("#s=%20%3C", "the address has signs that no shared script has")):
-        page.open(address)
-        equal(page.text("#status"), f"This address holds no script: {why}.")
-        equal(len(page.lines()), 10)
-
-
-@test
-def save_writes_the_script(page):
-    page.open("#e=keys")
-    page.click("#save")
-    equal(page.downloaded("keys.sql"), example("keys"))
-
-
-@test
-def the_transcript_can_be_saved(page):
-    page.open("#e=logs")
-    page.click("#transcript")
-    equal(page.downloaded("logs.out"), example("logs", "out"))
-
-
-@test
-def open_reads_a_file(page):
-    page.open()
-    page.upload("shop.sql", b"CREATE TABLE shop (a INT);\nINSERT INTO shop VALUES (3);\n")
-    equal([page.value("#script"), page.lines()], ["CREATE TABLE shop (a INT);\nINSERT INTO shop VALUES (3);\n", ["1 ok", "2 ok 1"]])
-
-
-@test
-def a_file_that_is_no_script_changes_nothing(page):
-    page.open("#e=keys")
-    for name, bytes_of_file, why in (("latin.sql", b"-- \xe9", "the script is not UTF-8"), ("long.sql", b" " * 1048577, "the script is longer than 1,048,576 bytes: it has 1,048,577")):
-        page.upload(name, bytes_of_file)
-        equal([page.text("#status"), page.value("#script")], [f"{name} was not opened: {why}.", example("keys")])
-
-
 # ---- what goes wrong, and what is long
 
 
@@ -594,9 +528,21 @@ def stop_ends_a_run_and_the_page_goes_on(page):
     page.browser.wait(lambda: not page.browser.script("return document.getElementById('stop').disabled"), "Stop")
     page.browser.click("#stop")
     page.idle()
-    assert re.fullmatch(r"Stopped after \d+ statements?\.", page.text("#status")), page.text("#status")
+    assert re.fullmatch(r"Stopped\. \d+ statements? of 617 executed\.", page.text("#status")), page.text("#status")
     page.run_script("COMMIT;")
     equal(page.lines(), ["1 ok"])
+
+
+@test
+def a_slow_statement_shows_that_it_runs(page):
+    """The statements before it have their answers, the time goes on, and Stop says how many there were."""
+    page.put("CREATE TABLE t (a INT);\nINSERT INTO t VALUES (1);\n" + "INSERT INTO t SELECT * FROM t;\n" * 14 + "DELETE FROM t WHERE EXISTS (SELECT * FROM t AS x WHERE x.a > t.a);\nCOMMIT;\n")
+    page.browser.click("#run")
+    page.browser.wait(lambda: re.fullmatch(r"Running for \d+ s: 16 statements of 18 executed", page.text("#status")), "the time of the run")
+    equal(page.texts(".answer .said")[:2], ["1 ok", "2 ok 1"])
+    page.browser.click("#stop")
+    page.idle()
+    equal(page.text("#status"), "Stopped. 16 statements of 18 executed.")
 
 
 @test

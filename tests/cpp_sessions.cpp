@@ -82,6 +82,58 @@ static void refusals() {
     WANT(refused.what() == std::string("Signal: authors stay") && refused.why().trigger == "KEPT");
 }
 
+// What a refusal of the second text says, after the first.
+static std::string told(const char *setting, const char *text) {
+    keep::session session;
+    session.execute_batch(setting);
+    return thrown<keep::refused>([&] { session.execute(text); }).what();
+}
+
+static void reasons() {
+    WANT(told("", "CREATE TABLE t (a INT REFERENCES t)") == "SchemaFault: constraint T_C1 refers to T, which has no PRIMARY KEY");
+    WANT(told("CREATE TABLE t (a INT, a2 INT);", "INSERT INTO t VALUES (1)") == "WrongShape: tuple 1 has 1 value for 2 columns of T");
+    WANT(told("CREATE TABLE t (a INT);", "INSERT INTO t VALUES ('a: b')") == "WrongShape: 'a: b' is a text, and column A of T is an INTEGER");
+    WANT(told("", "CREATE TABLE t (a VARCHAR(4097))") == "Limit: column A is a VARCHAR(4097), and 4096 is the most");
+    WANT(told("", "CREATE TABLE t (a INT, b INT, a INT)") == "Duplicate: column A comes twice");
+    WANT(told("CREATE TABLE t (a INT CONSTRAINT c NOT NULL); START TRANSACTION;", "SET CONSTRAINTS c DEFERRED") == "NotDeferrable: constraint C is NOT DEFERRABLE");
+    WANT(told("START TRANSACTION; SAVEPOINT a;", "RELEASE SAVEPOINT s") == "UnknownSavepoint: savepoints that stand: A; savepoint S isn't there");
+    WANT(told("CREATE TABLE t (a INT);", "INSERT INTO t VALUES (9223372036854775807 + 1)") == "NumberOutOfRange: A of T: 9223372036854775807 + 1 is out of range");
+    WANT(told("CREATE TABLE t (a INT); CREATE TRIGGER again AFTER INSERT ON t INSERT INTO t VALUES (1);", "INSERT INTO t VALUES (0)")
+        == "DepthLimit: depth 17, and 16 is the most: AGAIN statement 1, AGAIN statement 1, AGAIN statement 1, .., AGAIN statement 1");
+    WANT(told("CREATE TABLE p (k INT PRIMARY KEY); CREATE TABLE c (k INT CONSTRAINT f REFERENCES p ON DELETE CASCADE);"
+              "CREATE TABLE d (a INT CONSTRAINT few CHECK (a < 1)); CREATE TRIGGER r AFTER DELETE ON c INSERT INTO d VALUES (1);"
+              "INSERT INTO p VALUES (7); INSERT INTO c VALUES (7); COMMIT;", "DELETE FROM p") == "Violation: FEW: D row 3 (1) makes A < 1 false (1 < 1)");
+}
+
+static void forgeries() {
+    const std::string forged = "x\n  T_C9: forged reason\n1 ok\n  it's isn't there\n";
+    const std::string written = "'x\n  T_C9: forged reason\n1 ok\n  it''s isn''t there\n'";
+    keep::session session;
+    session.execute_batch("CREATE TABLE t (a VARCHAR(300) PRIMARY KEY, b INT);");
+    session.execute("INSERT INTO t VALUES (?, 1)", forged);
+    auto refused = thrown<keep::refused>([&] { session.execute("INSERT INTO t VALUES (?, 2)", forged); });
+    WANT(refused.why().reasons == std::vector{"T_C1 (PRIMARY KEY (A)): T row 1 (" + written + ", 1) has the key of row 2 (" + written + ", 2)"});
+    refused = thrown<keep::refused>([&] { session.execute("UPDATE t SET b = ?", forged); });
+    WANT(refused.why().reasons == std::vector{written + " is a text, and column B of T is an INTEGER"});
+    session.explain(true);
+    session.execute("DELETE FROM t");
+    WANT(session.account() == std::vector{"  delete T row 1 (" + written + ", 1)"});
+    session.execute("INSERT INTO t VALUES (?, 1)", forged);
+    session.query("SELECT * FROM t");
+    WANT(session.account() == std::vector<std::string>{"  columns A, B"});
+    session.execute_batch("COMMIT; CREATE TRIGGER r BEFORE DELETE ON t SIGNAL " + written + ";");
+    refused = thrown<keep::refused>([&] { session.execute("DELETE FROM t"); });
+    WANT(refused.why().signal == forged && refused.why().reasons.empty() && session.account() == std::vector<std::string>{"  trigger R"});
+}
+
+static void long_names() {
+    const std::string table(128, 'T');
+    keep::session session;
+    session.execute_batch("CREATE TABLE " + table + " (a INT UNIQUE INITIALLY DEFERRED); INSERT INTO " + table + " VALUES (1), (1);");
+    const std::vector<keep::violation> pending = session.pending();
+    WANT(pending.size() == 2 && pending[1].constraint == table + "_C1" && pending[1].row == 2 && pending[1].other == 1U);
+}
+
 static void dumps() {
     keep::session session = books();
     session.execute("INSERT INTO book VALUES ('Emma', 'Austen', 7)");
@@ -103,6 +155,9 @@ static void usage() {
     thrown<keep::usage_error>([&] { session.execute("SELECT # FROM t WHERE a = ?", 1); });
     fault = thrown<keep::syntax_error>([&] { session.execute("SELECT # FROM t"); });
     thrown<keep::usage_error>([&] { session.execute("SELECT ? FROM t", "\xff"); });
+    const char *missing = nullptr;
+    thrown<keep::usage_error>([&] { session.execute("SELECT ? FROM t", missing); });
+    thrown<keep::usage_error>([&] { session.execute("SELECT ? FROM t", std::optional(missing)); });
     thrown<keep::usage_error>([] { keep::session(65, 1); });
     session.execute("CREATE TABLE t (a INT)");
     thrown<keep::usage_error>([&] { session.execute("SELECT a FROM t"); });
@@ -123,6 +178,20 @@ static void transactions() {
         open.commit();
     }
     WANT(session.query("SELECT title FROM book").size() == 1);
+    {
+        keep::transaction open(session);
+        session.execute("DELETE FROM book");
+        thrown<keep::usage_error>([&] { keep::transaction(session).commit(); });
+        WANT(session.query("SELECT title FROM book").empty() && session.in_transaction());
+    }
+    WANT(session.query("SELECT title FROM book").size() == 1);
+    {
+        keep::transaction open(session);
+        session.execute("INSERT INTO book VALUES ('Dracula', 'Stoker', 1)");
+        thrown<keep::refused>([&] { open.commit(); });
+        thrown<keep::usage_error>([&] { open.commit(); });
+        keep::transaction(session).commit();
+    }
     session.rollback();
     session.explain(true);
     session.execute_batch("START TRANSACTION; SAVEPOINT s;");
@@ -140,6 +209,9 @@ static void transactions() {
 int main() {
     values();
     refusals();
+    reasons();
+    forgeries();
+    long_names();
     dumps();
     usage();
     transactions();

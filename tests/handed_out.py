@@ -7,6 +7,7 @@ PATH is the program as it was linked, crates/sqlkeep/out/sqlkeep. If dist/ was m
 once the linked one is stripped and has its version; if the kit is another one, all scripts run over the program in dist/. If dist/ is of
 other sources, that part is skipped. The last line is `N passed, N failed, N skipped`."""
 import argparse
+import concurrent.futures
 import hashlib
 import os
 import shutil
@@ -93,13 +94,33 @@ def chosen(folder):
     return (FAILED, "; ".join(wrong)) if wrong else (PASSED, "")
 
 
+def begun_together(folder):
+    """Twelve first runs side by side, three times, and a run after a disk that was full: all run the program of dist/, and none compiles."""
+    clone, checked = Clone(folder), Path(folder, "clone/out/dist.checked")
+    with concurrent.futures.ThreadPoolExecutor(12) as pool:
+        found = set()
+        for _ in range(3):
+            checked.unlink(missing_ok=True)
+            found |= set(pool.map(lambda _: clone.says(), range(12)))
+    for left in ("", "cur"):
+        checked.write_text(left)
+        found.add(clone.says())
+    left = [path.name for path in checked.parent.iterdir() if path != checked]
+    return (PASSED, "") if found == {("handed out", "")} and not left else (FAILED, f"{found}, {left}")
+
+
 def main():
     parser = argparse.ArgumentParser()
     parser.add_argument("--program", required=True)
     words = parser.parse_args()
     counts = {PASSED: 0, FAILED: 0, SKIPPED: 0}
     with tempfile.TemporaryDirectory(prefix="handed-out-") as folder:
-        for name, (ended, why) in (("the program in dist", same_program(words.program)), ("the program that ./sqlkeep runs", chosen(folder))):
+        tests = (
+            ("the program in dist", same_program(words.program)),
+            ("the program that ./sqlkeep runs", chosen(Path(folder, "chosen"))),
+            ("first runs of ./sqlkeep side by side", begun_together(Path(folder, "together"))),
+        )
+        for name, (ended, why) in tests:
             counts[ended] += 1
             if ended != PASSED:
                 print(f"{'FAILED ' if ended == FAILED else ''}{name}: {ended}: {why}")

@@ -1,6 +1,7 @@
 #!/usr/bin/env python3
 """Tries the engine in JavaScript: every script of tests/scripts and examples that has no other words than limits, with accounts where they are
-there; the accounts of all of them, read into objects and written again; and the calls of a session (javascript.mjs).
+there; the accounts of all of them, read into objects and written again; the calls of a session (javascript.mjs); and that a build that is
+ended leaves nothing behind. The types are tried by the compiler of TypeScript.
 
   tests/javascript.py --library FOLDER
 
@@ -15,11 +16,14 @@ import shutil
 import subprocess
 import sys
 import tempfile
+import time
+from pathlib import Path
 
 import c_library
 import run
 
 HERE = os.path.dirname(os.path.abspath(__file__))
+ROOT = Path(HERE).parent
 # What the program says of a script that it doesn't run, by the status of the library.
 STOPS = {4: b"sqlkeep: the script is not UTF-8\n", 5: b"sqlkeep: the script is longer than 1048576 bytes\n"}
 
@@ -63,10 +67,53 @@ def is_unlike(answer):
     return answer is None or answer.get("unlike") is not None or ("accounts" not in answer and answer.get("status") not in STOPS)
 
 
+def untyped():
+    """What the compiler of TypeScript says of a program that uses the library by its types."""
+    with tempfile.TemporaryDirectory() as place:
+        package = Path(place, "node_modules", "sqlkeep")
+        package.mkdir(parents=True)
+        for file in ("package.json", "sqlkeep.mjs", "sqlkeep.d.ts"):
+            shutil.copy(ROOT / "page" / file, package)
+        Path(place, "package.json").write_text('{"type": "module"}', "utf-8")
+        shutil.copy(ROOT / "tests" / "javascript_types.ts", place)
+        words = ["tsc", "--noEmit", "--strict", "--target", "es2022", "--module", "nodenext", "--moduleResolution", "nodenext", "javascript_types.ts"]
+        return subprocess.run(words, cwd=place, capture_output=True, text=True, check=False).stdout
+
+
+def ended_build():
+    """What a build of the page leaves that gets SIGTERM, and what one leaves that was killed, when the next one has begun."""
+    out, killed = ROOT / "out", ROOT / "out" / "sandboxes-of-a-killed-build"
+    killed.mkdir(parents=True, exist_ok=True)
+    (killed / "lock").touch()
+    build = subprocess.Popen([sys.executable, ROOT / "tools" / "page.py", "--unproved"], stdout=subprocess.DEVNULL, stderr=subprocess.DEVNULL)
+    try:
+        until = time.monotonic() + 60
+        while build.poll() is None and time.monotonic() < until and not list(out.glob("sandboxes-*/whole/kit")):
+            time.sleep(0.05)
+        begun = list(out.glob("sandboxes-*/whole/kit"))
+        build.terminate()
+        build.wait(60)
+    finally:
+        build.kill()
+    left = [str(path) for path in [*out.glob("sandboxes-*/whole"), killed] if path.exists()]
+    return left if begun else ["the build didn't begin"]
+
+
 def said(answer):
     if answer is None:
         return b"no answer"
     return answer["transcript"].encode() if "transcript" in answer else STOPS.get(answer["status"], str(answer["status"]).encode())
+
+
+def calls(folder):
+    """How many calls of a session are as they should be, and what is said of the others."""
+    done = subprocess.run(["node", os.path.join(HERE, "javascript.mjs"), folder], capture_output=True, text=True, timeout=300, check=False)
+    lines = done.stdout.splitlines()
+    return sum(line.startswith("ok ") for line in lines), [line.removeprefix("FAILED ") for line in lines if line.startswith("FAILED ")] + ([done.stderr[-1000:]] if done.returncode else [])
+
+
+# What is tried beside, what it wants, and which package has that.
+BESIDE = (("types", untyped, ["tsc"], "node-typescript"), ("a build that is ended", ended_build, ["rt", "wasm-opt"], "binaryen"))
 
 
 def main():
@@ -76,26 +123,23 @@ def main():
     if shutil.which("node") is None or not os.path.exists(os.path.join(folder, "sqlkeep.wasm")):
         print("the engine in JavaScript: skipped; apt-get install nodejs binaryen, then ./build --page\n0 passed, 0 failed, 1 skipped")
         return 0
-    wanted, passed, failed = list(cases()), 0, 0
+    wanted, skipped = list(cases()), 0
     found = answers(folder, wanted)
-    for name, _, _, want in wanted:
-        why = run.compare(name, want, said(found.get(name)))
-        passed, failed = passed + (not why), failed + bool(why)
-        if why:
-            print("FAILED", why[0][:300])
+    failed = [why[0][:300] for why in (run.compare(name, want, said(found.get(name))) for name, _, _, want in wanted) if why]
     unlike, accounts, scripts = read_again(wanted, folder)
-    print("".join(f"FAILED account of {why[:600]}\n" for why in unlike) + f"{accounts} accounts of {scripts} scripts read into objects and written again")
-    passed, failed = passed + scripts - len(unlike), failed + len(unlike)
-    calls = subprocess.run(["node", os.path.join(HERE, "javascript.mjs"), folder], capture_output=True, text=True, timeout=300, check=False)
-    for line in calls.stdout.splitlines():
-        passed, failed = passed + line.startswith("ok "), failed + line.startswith("FAILED ")
-        if line.startswith("FAILED "):
-            print(line)
-    if calls.returncode:
-        failed += 1
-        print("FAILED", calls.stderr[-1000:])
-    print(f"{passed} passed, {failed} failed")
-    return int(failed > 0)
+    print(f"{accounts} accounts of {scripts} scripts read into objects and written again")
+    called, miscalled = calls(folder)
+    passed = len(wanted) - len(failed) + scripts - len(unlike) + called
+    failed += [f"account of {why[:600]}" for why in unlike] + miscalled
+    for name, test, tools, package in BESIDE:
+        if not all(map(shutil.which, tools)):
+            skipped += 1
+            print(f"{name}: skipped; apt-get install {package}")
+            continue
+        why = test()
+        passed, failed = passed + (not why), failed + ([f"{name}: {why}"] if why else [])
+    print("".join(f"FAILED {why}\n" for why in failed) + f"{passed} passed, {len(failed)} failed, {skipped} skipped")
+    return int(bool(failed))
 
 
 if __name__ == "__main__":

@@ -7,6 +7,7 @@ of the pages, with an empty home folder.
 It installs what ./build and ./build --library left in out/, or with --unproved what they left in out/unproved. The last line is
 `N passed, N failed, N skipped`; what needs a program that isn't here is skipped, and the line says which package has it."""
 import argparse
+import functools
 import os
 import re
 import shutil
@@ -14,6 +15,8 @@ import subprocess
 import sys
 import tempfile
 from pathlib import Path
+
+import hostile_texts
 
 ROOT = Path(__file__).resolve().parent.parent
 WARNINGS = ["-Wall", "-Wextra", "-Wpedantic", "-Wshadow", "-Wconversion", "-Werror"]
@@ -23,6 +26,10 @@ PARAMETERS = """AUTHOR: ID INTEGER NAME VARCHAR(40)
 BOOK: TITLE VARCHAR(40) AUTHOR INTEGER
 title: x'); DELETE FROM author; --
 """
+
+
+# So many statements with hostile texts, of which more than 2,000 are refused.
+HOSTILE = 2600
 
 
 class Skipped(Exception):
@@ -52,9 +59,20 @@ class Place:
 
     def run(self, folder, *words):
         """Runs a command that has to end well, and gives what it printed."""
-        done = subprocess.run([str(word) for word in words], cwd=folder, capture_output=True, env=self.settings, check=False)
+        return self.answer(folder, *words).decode()
+
+    def answer(self, folder, *words, given=b""):
+        done = subprocess.run([str(word) for word in words], cwd=folder, input=given, capture_output=True, env=self.settings, check=False)
         assert done.returncode == 0, f"{' '.join(map(str, words))}: {(done.stdout + done.stderr).decode(errors='replace')[-2000:]}"
-        return done.stdout.decode()
+        return done.stdout
+
+    @functools.cached_property
+    def hostile(self):
+        """Statements with texts that look like lines of an account, and the reasons of each by the program's JSON."""
+        texts = hostile_texts.statements(1, HOSTILE)
+        wanted = list(hostile_texts.reasons(self.prefix / "bin/sqlkeep", texts))
+        assert sum(each is not None for each in wanted) >= 2000, "most of the statements are to be refused"
+        return texts, wanted
 
     def folder(self, name):
         made = self.home / name
@@ -86,6 +104,45 @@ def c_parameters(place):
     shutil.copy(ROOT / "examples/c/parameters.c", folder)
     place.run(folder, "cc", "-std=c11", *WARNINGS, "parameters.c", *flags(place), f"-Wl,-rpath,{place.prefix}/lib", "-o", "parameters")
     assert place.run(folder, "./parameters") == PARAMETERS
+
+
+def c_words_of_statuses(place):
+    """The header has each status of the library, each has words of its own, and no other number has any."""
+    folder = place.folder("statuses")
+    header = (ROOT / "include/sqlkeep.h").read_text("utf-8")
+    statuses = dict(re.findall(r"^    SQLKEEP_(\w+) = (\d+),?$", re.search(r"enum sqlkeep_status \{(.*?)\n\};", header, re.S)[1], re.M))
+    library = dict(re.findall(r"^pub const (\w+): u32 = (\d+);$", (ROOT / "crates/iv_shown/src/status.rt").read_text("utf-8"), re.M))
+    assert {**library, "NO_HANDLE": "8"} == statuses and sorted(map(int, statuses.values())) == list(range(len(statuses))), (library, statuses)
+    (folder / "statuses.c").write_text(f"""#include <sqlkeep.h>
+#include <stdio.h>
+int main(void) {{
+    for (uint32_t status = 0; status <= {len(statuses)}; status++) puts(sqlkeep_status_text(status));
+}}
+""")
+    place.run(folder, "cc", "-std=c11", *WARNINGS, "-I", place.prefix / "include", "statuses.c", place.prefix / "lib/libsqlkeep.a", "-o", "statuses")
+    *words, none = place.run(folder, "./statuses").splitlines()
+    assert none == "unknown status" and none not in words and len(set(words)) == len(statuses), words
+
+
+def unlike(place, answer):
+    """Raises where a program answers other reasons than the program's JSON has."""
+    texts, wanted = place.hostile
+    found = [each.split(b"\xfe") for each in answer.removesuffix(b"\xff").split(b"\xff")]
+    for text, want, got in zip(texts, wanted, found):
+        expected = [b"accepted"] if want is None else [b"refused", *(reason.encode() for reason in want)]
+        assert got == expected, f"{text!r}: {got}, and not {expected}"
+    assert len(found) == len(texts)
+
+
+def hostile_input(place):
+    return b"".join(text.encode() + b"\xff" for text in place.hostile[0])
+
+
+def cpp_reasons(place):
+    """The reasons of more than 2,000 refusals, whatever texts are in them."""
+    folder = place.folder("cpp_reasons")
+    place.run(folder, "c++", "-std=c++17", *WARNINGS, "-I", place.prefix / "include", ROOT / "tests/cpp_reasons.cpp", place.prefix / "lib/libsqlkeep.a", "-o", "reasons")
+    unlike(place, place.answer(folder, "./reasons", given=hostile_input(place)))
 
 
 def cpp_of_the_page(place):
@@ -138,6 +195,14 @@ def rust_tests(place):
     place.run(crate(place), "cargo", "test", "--offline", "--quiet")
 
 
+def rust_reasons(place):
+    """The same through the crate."""
+    there = crate(place)
+    (there / "examples").mkdir(exist_ok=True)
+    shutil.copy(ROOT / "tests/rust_reasons.rs", there / "examples/reasons.rs")
+    unlike(place, place.answer(there, "cargo", "run", "--offline", "--quiet", "--example", "reasons", given=hostile_input(place)))
+
+
 def rust_parameters(place):
     assert place.run(crate(place), "cargo", "run", "--offline", "--quiet", "--example", "parameters") == PARAMETERS
 
@@ -150,7 +215,9 @@ def rust_is_clean(place):
     place.run(there, "cargo", "clippy", "--offline", "--all-targets", "--", "-D", "warnings")
 
 
-TESTS = (c_by_pkg_config, c_parameters, cpp_of_the_page, cpp_by_cmake, cpp_sessions, rust_of_the_page, rust_parameters, rust_tests, rust_is_clean)
+TESTS = (
+    c_by_pkg_config, c_parameters, c_words_of_statuses, cpp_of_the_page, cpp_by_cmake, cpp_sessions, cpp_reasons, rust_of_the_page, rust_parameters, rust_tests, rust_reasons, rust_is_clean,
+)
 
 
 def main():

@@ -8,13 +8,14 @@ The compiler hands the whole library to the clang of its toolchain as one module
 same clang and linked with a small memory of its own (page/wasm), and binaryen gives it addresses of 32 bits, which every engine runs.
 It wants the packages binaryen and node: apt-get install binaryen nodejs.
 """
+import json
 import os
 import re
 import shlex
 import shutil
+import signal
 import subprocess
 import sys
-import tempfile
 from pathlib import Path
 
 sys.dont_write_bytecode = True
@@ -25,7 +26,9 @@ import front_end
 import libraries
 import parts
 import repository
+import sandboxes
 import toolchains
+import unproved
 from repository import ROOT, kit, say
 
 TARGET = "wasm64-unknown-unknown"
@@ -115,7 +118,8 @@ def lower(sandbox, to):
     run(sandbox, "wasm-opt", *(f"--enable-{feature}" for feature in FEATURES), "--memory64-lowering", "wide.wasm", "-o", "low.wasm")
     to.mkdir(parents=True, exist_ok=True)
     shutil.copyfile(sandbox / "low.wasm", to / "sqlkeep.wasm")
-    for file in ("sqlkeep.mjs", "account.mjs", "catalogue.mjs", "sqlkeep.d.ts", "package.json"):
+    package = json.loads(Path(ROOT, "page", "package.json").read_text("utf-8"))
+    for file in ("package.json", *(each for each in package["files"] if Path(ROOT, "page", each).suffix in (".mjs", ".ts"))):
         shutil.copyfile(Path(ROOT, "page", file), to / file)
 
 
@@ -123,10 +127,10 @@ def main(words):
     if shutil.which("wasm-opt") is None:
         say("wasm-opt isn't here: apt-get install binaryen")
         return 2
+    signal.signal(signal.SIGTERM, unproved.ended)
     is_unproved = "--unproved" in words
     to = Path(ROOT, "out", "unproved") if is_unproved else Path(ROOT, "out")
-    to.mkdir(parents=True, exist_ok=True)
-    with tempfile.TemporaryDirectory(prefix="making-", dir=to) as folder:
+    with sandboxes.held() as folder:
         sandbox = Path(folder)
         if not (keep_unproved_module(sandbox) if is_unproved else keep_proved_module(sandbox)):
             return 1

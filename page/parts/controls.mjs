@@ -4,11 +4,15 @@ import { Answers, signOf } from "./answers.mjs";
 import { byId, element } from "./elements.mjs";
 import { Editor } from "./editor.mjs";
 import { Examples, questionOf } from "./examples.mjs";
+import { Kept } from "./kept.mjs";
 import { Limits } from "./limits.mjs";
 import { Panes } from "./panes.mjs";
 import { Run } from "./run.mjs";
 import { count } from "./said.mjs";
 import { addressOf, scriptOf, textOf } from "./share.mjs";
+
+// So long a run takes before the page says that it goes on, and between two looks at it.
+const RUNNING_MS = 300;
 
 function download(text, name) {
   const address = URL.createObjectURL(new Blob([text], { type: "text/plain" }));
@@ -25,6 +29,7 @@ export class Controls {
     this.limits = new Limits((fault) => this.#limited(fault));
     this.run = new Run(client, () => this.limits.options);
     this.panes = new Panes();
+    this.kept = new Kept();
     this.examples = new Examples(byId("example"), groups);
     this.editor = new Editor(byId("editor"), { onChange: () => this.#edited(), onCaret: (number) => this.#caret(number) });
     this.answers = new Answers(byId("answers"), (number) => this.choose(number));
@@ -32,9 +37,18 @@ export class Controls {
     this.#listen();
   }
 
-  /** Opens the script of the address, or the first example, and runs it. */
+  /** Opens the script of the address and runs it, or shows the one that was typed here last, or runs the first example. */
   async begin() {
-    await this.#openAddress() || await this.#openExample(this.examples.first);
+    const { script } = this.kept, own = script === null ? null : this.examples.add(script);
+    if (await this.#openAddress()) {
+      return;
+    }
+    if (own === null) {
+      await this.#openExample(this.examples.first);
+    } else {
+      await this.#put(own);
+      this.#say("This is the script that was typed here last: run it.");
+    }
   }
 
   #listen() {
@@ -69,7 +83,10 @@ export class Controls {
 
   #say(text, isBad = false) {
     byId("status").className = isBad ? "bad" : "";
-    byId("status").textContent = text;
+    // What is said already isn't read aloud again.
+    if (byId("status").textContent !== text) {
+      byId("status").textContent = text;
+    }
   }
 
   // Puts a script into the editor. What was typed there is kept in the list of examples.
@@ -170,6 +187,11 @@ export class Controls {
 
   #edited() {
     this.examples.keep(this.editor.text);
+    this.kept.put(this.editor.text);
+    // The address holds another script now.
+    if (location.hash) {
+      history.replaceState(null, "", location.pathname + location.search);
+    }
     this.#again("The script was changed: run it again.");
   }
 
@@ -225,22 +247,30 @@ export class Controls {
     if (this.run.isBusy) {
       return;
     }
-    const began = performance.now();
+    const began = performance.now(), running = setInterval(() => this.#sayRunning(performance.now() - began), RUNNING_MS);
     let drawn = 0;
     try {
       await this.run.execute(this.editor.text, upTo, () => {
         if (performance.now() - drawn > 100) {
           this.answers.show(this.#items());
-          this.#say(`${count(this.run.answers.length, "statement")} of ${this.run.count.toLocaleString("en")} executed`);
+          this.#sayRunning(performance.now() - began);
           drawn = performance.now();
         }
       });
+      clearInterval(running);
       this.#showAnswers();
       this.#sayRun(performance.now() - began);
       await this.choose(pick());
     } catch (error) {
       this.#failed(error);
+    } finally {
+      clearInterval(running);
     }
+  }
+
+  #sayRunning(time) {
+    const whole = this.run.count > 0 ? `: ${count(this.run.answers.length, "statement")} of ${this.run.count.toLocaleString("en")} executed` : "";
+    this.#say(`Running${time < 1000 ? "" : ` for ${Math.floor(time / 1000)} s`}${whole}`);
   }
 
   #sayRun(time) {
@@ -259,7 +289,7 @@ export class Controls {
     if (error.isTrap) {
       this.#say(`The engine stopped at statement ${error.at + 1} (${error.message}). Its session is thrown away; Run begins a new one.`, true);
     } else if (error.name === "Stopped") {
-      this.#say(error.message === "stopped" ? `Stopped after ${count(this.run.answers.length, "statement")}.` : `The worker failed: ${error.message}.`, error.message !== "stopped");
+      this.#say(error.message === "stopped" ? `Stopped. ${count(this.run.answers.length, "statement")} of ${this.run.count.toLocaleString("en")} executed.` : `The worker failed: ${error.message}.`, error.message !== "stopped");
     } else {
       this.#say(error.message, true);
     }

@@ -136,9 +136,7 @@ function otherSide(violation, schema) {
     return [keyGroup(violation, schema)];
   }
   const [, words] = REASONS[violation.reason] ?? ["", violation.reason];
-  // As it is written in the script, where the schema has it.
-  const condition = schema.constraints.get(violation.constraint)?.condition ?? violation.condition;
-  const text = violation.reason === "condition" ? `${condition} ${words}` : violation.reason === "null" ? `${violation.column} ${words}` : words;
+  const text = violation.reason === "condition" ? `${violation.condition} ${words}` : violation.reason === "null" ? `${violation.column} ${words}` : words;
   // The empty head keeps the words beside the row that they are about.
   return [{ head: " ", columns: [], rows: [{ label: text, kind: "absent", cells: [], title: text }] }];
 }

@@ -29,7 +29,7 @@ export class Panes {
 
   /** Shows a statement. */
   show(detail, text, answers, whole) {
-    detail.schema = new Schema(detail.catalogue, detail.conditions);
+    detail.schema = new Schema(detail.catalogue);
     detail.wentBack = wentBack(detail, text) ? [...detail.changes].sort((one, other) => one.row - other.row) : [];
     this.#detail = detail;
     byId("detail").hidden = false;

@@ -1,10 +1,8 @@
-// A script in a session of its own, run up to any of its statements, with the rows, violations and modes as they are then.
+// A script in a session of its own, run up to any of its statements, with the rows and violations as they are then.
 
 import { linesOf } from "../account.mjs";
 import { statementsOf, tokensOf } from "./tokens.mjs";
-import { Modes } from "./modes.mjs";
 import { Journal } from "./journal.mjs";
-import { conditionsOf, Schema } from "./schema.mjs";
 
 const PENDING_UP_TO = 400;
 
@@ -16,10 +14,15 @@ export function placeOfByte(text, byte) {
   return { at: before.length, line: lines.length, column: [...lines.at(-1)].length + 1, words: [...words].slice(0, 60).join("") };
 }
 
+// What the engine says of the fault of a text that begins with it: the word, and what might have stood there or is known of it.
+function toldOf(engine, text) {
+  return /^1 fault 0\n  line \d+, column \d+: (.*)/.exec(engine.run(text, { explain: true }).transcript)?.[1] ?? "";
+}
+
 export class Replay {
   /**
-   * The place at which no statement begins, and that of the first word that can't stand where it does.
-   * @type {{at: number, line: number, column: number, words: string, byte: number, word: ReturnType<typeof placeOfByte>, isCut: boolean} | null}
+   * The place at which no statement begins, that of the first word that can't stand where it does, and what is told of it.
+   * @type {{at: number, line: number, column: number, words: string, byte: number, word: ReturnType<typeof placeOfByte>, isCut: boolean, told: string} | null}
    */
   fault = null;
 
@@ -43,13 +46,14 @@ export class Replay {
     this.whole = script ?? this.script;
     const { statements } = this.session.read(this.whole);
     const { fault } = this.session;
-    this.fault ??= fault && { ...placeOfByte(this.script, fault.at), byte: fault.at, word: placeOfByte(this.script, fault.word), isCut: fault.isCut };
+    if (fault) {
+      const place = placeOfByte(this.script, fault.at);
+      this.fault = { ...place, byte: fault.at, word: placeOfByte(this.script, fault.word), isCut: fault.isCut, told: toldOf(this.engine, this.script.slice(place.at)) };
+    }
     this.count = statements;
     this.at = 0;
     this.last = null;
     this.isRead = true;
-    this.conditions = [];
-    this.modes = new Modes();
     this.journal = new Journal();
   }
 
@@ -64,10 +68,6 @@ export class Replay {
     const isOpen = this.session.inTransaction;
     const account = this.session.account;
     const changes = this.journal.follow({ statement, outcome, entries: outcome.kind === "changed" ? account : [], isOpen });
-    this.modes.follow({ statement, outcome, isOpen });
-    if (outcome.kind === "done" && statement) {
-      this.conditions.push(...conditionsOf(this.script, statement.tokens));
-    }
     this.at += 1;
     this.last = { outcome, account, changes, isOpen, work: this.session.work() };
     return { line: linesOf(outcome.lines)[0], kind: outcome.kind, pending: this.count <= PENDING_UP_TO ? this.session.pending().length : null };
@@ -88,16 +88,17 @@ export class Replay {
     this.goTo(number);
     const { outcome, account, changes, isOpen, work } = this.last;
     const { lines, ...answer } = outcome;
-    const texts = linesOf(lines), catalogue = this.session.catalogue(), schema = new Schema(catalogue, this.conditions);
+    const texts = linesOf(lines), catalogue = this.session.catalogue();
     return {
-      number, answer, line: texts[0], lines: outcome.kind === "rows" ? [] : texts.slice(1), account, changes, isOpen, work, catalogue, conditions: this.conditions,
-      tables: this.tables(catalogue), pending: this.pending(schema), modes: this.modes.list(catalogue.constraints), columns: this.columnsOf(outcome, number),
+      number, answer, line: texts[0], lines: outcome.kind === "rows" ? [] : texts.slice(1), account, changes, isOpen, work, catalogue,
+      tables: this.tables(catalogue), pending: this.pending(catalogue), columns: this.columnsOf(outcome, number),
     };
   }
 
-  pending(schema) {
+  pending({ constraints }) {
+    const tables = new Map(constraints.map(({ name, table }) => [name, table]));
     return this.session.pending().map((each) => {
-      const table = schema.constraints.get(each.constraint)?.table ?? null;
+      const table = tables.get(each.constraint);
       return { ...each, table, values: this.journal.rows(table).get(each.row) ?? null };
     });
   }

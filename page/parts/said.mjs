@@ -35,11 +35,8 @@ function workOf({ work, isOpen, answer }) {
 export const count = (number, word) => `${number.toLocaleString("en")} ${word}${number === 1 ? "" : "s"}`;
 
 // The first word that can't stand where it does.
-function wordOf({ word, isCut }) {
-  if (isCut) {
-    return "The script ends within that statement.";
-  }
-  return `The first word that can't stand where it does is at line ${word.line}, column ${word.column}${word.words ? `: ${word.words}` : "."}`;
+function wordOf({ word, isCut, told }) {
+  return `${isCut ? "The script ends within that statement" : "The first word that can't stand where it does is"} at line ${word.line}, column ${word.column}: ${told}.`;
 }
 
 /** A place of the script at which no statement begins, as elements. */

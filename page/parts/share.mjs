@@ -3,12 +3,37 @@
 import { isLimit } from "./limits.mjs";
 
 const MOST_BYTES = 1 << 20;
+// A byte of deflate makes at most 1,032 bytes, and a stream makes all of a part before it is asked.
+const PART = 1024;
 
 async function through(stream, bytes) {
   const writer = stream.writable.getWriter();
   writer.write(bytes).catch(() => {});
   writer.close().catch(() => {});
   return new Uint8Array(await new Response(stream.readable).arrayBuffer());
+}
+
+// What was compressed, made part by part: no more of it than a script may have.
+async function inflated(bytes) {
+  const { readable, writable } = new DecompressionStream("deflate-raw"), writer = writable.getWriter(), reader = readable.getReader();
+  const feed = async () => {
+    for (let at = 0; at < bytes.length; at += PART) {
+      await writer.write(bytes.subarray(at, at + PART));
+    }
+    await writer.close();
+  };
+  feed().catch(() => {});
+  const parts = [];
+  let length = 0;
+  for (let part = await reader.read(); !part.done; part = await reader.read()) {
+    parts.push(part.value);
+    length += part.value.length;
+    if (length > MOST_BYTES) {
+      await reader.cancel().catch(() => {});
+      throw new TextFault("the script is longer than 1,048,576 bytes");
+    }
+  }
+  return new Uint8Array(await new Blob(parts).arrayBuffer());
 }
 
 /** Bytes out of base64. */
@@ -52,7 +77,7 @@ async function decoded(coded) {
     throw new Error("the address has signs that no shared script has");
   }
   try {
-    return textOf(await through(new DecompressionStream("deflate-raw"), bytesOf(coded.replaceAll("-", "+").replaceAll("_", "/"))));
+    return textOf(await inflated(bytesOf(coded.replaceAll("-", "+").replaceAll("_", "/"))));
   } catch (error) {
     throw new Error(error instanceof TextFault ? error.message : "the script in the address is damaged or cut off");
   }
@@ -60,6 +85,9 @@ async function decoded(coded) {
 
 /** Bytes that can't be a script. */
 export class TextFault extends Error {}
+
+/** Whether a text is short enough for a script. */
+export const isScript = (text) => new TextEncoder().encode(text).length <= MOST_BYTES;
 
 /** The text of a file, tested: a script is UTF-8 and has at most 1,048,576 bytes. */
 export function textOf(bytes) {

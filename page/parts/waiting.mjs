@@ -7,30 +7,44 @@ import { count } from "./said.mjs";
 const MOST = 50, HEIGHT = 40;
 
 /** The constraints as elements; `answers` has the number of violations after each statement. */
-export function waitingOf({ modes, pending, number, isOpen }, answers) {
-  if (modes.length === 0) {
+export function waitingOf({ catalogue, pending, number, isOpen }, answers) {
+  const waiting = catalogue.constraints.filter((constraint) => constraint.isDeferrable);
+  if (waiting.length === 0) {
     return [element("p", { class: "none" }, "None: each constraint is checked when a statement ends.")];
   }
-  const items = modes.map((mode) => itemOf(mode, pending.filter((each) => each.constraint === mode.constraint), isOpen));
+  const items = waiting.map((constraint) => itemOf(constraint, pending.filter((each) => each.constraint === constraint.name), isOpen));
   const course = answers.length > 1 && answers.every((answer) => answer.pending !== null) ? [courseOf(answers, number)] : [];
   return [element("ul", { class: "waiting" }, ...items), ...course];
 }
 
-function modeOf(mode, isOpen) {
-  if (!mode.isDeferred) {
-    return mode.isInitially ? "immediate now, until the transaction ends" : "immediate, and may be deferred";
+function modeOf({ isDeferred, isInitiallyDeferred }, isOpen) {
+  if (!isDeferred) {
+    return isInitiallyDeferred ? "immediate now, until the transaction ends" : "immediate, and may be deferred";
   }
-  return isOpen || mode.isInitially ? "deferred: checked at COMMIT" : "deferred";
+  return isOpen || isInitiallyDeferred ? "deferred: checked at COMMIT" : "deferred";
 }
 
-function itemOf(mode, violations, isOpen) {
+const listed = (values) => `(${values.map(writtenValue).join(", ")})`;
+
+// What is the matter with a row, as an account says it.
+function matterOf({ kind, referenced, isMatchFull, condition }, { key, other }) {
+  if (kind === "FOREIGN KEY") {
+    return isMatchFull && key.includes(null) ? "has some nulls in its key" : `refers to ${referenced} ${listed(key)}, which isn't there`;
+  }
+  if (kind === "CHECK") {
+    return `makes ${condition} false`;
+  }
+  return other === null ? "has a null in its key" : `has the key of row ${other}`;
+}
+
+function itemOf(constraint, violations, isOpen) {
   const isViolated = violations.length > 0;
-  const rows = violations.slice(0, MOST).map((each) => element("li", {}, `${each.table ?? ""} row ${each.row}${each.values ? ` (${each.values.map(writtenValue).join(", ")})` : ""}`));
+  const rows = violations.slice(0, MOST).map((each) => element("li", {}, `${each.table} row ${each.row} ${each.values ? `${listed(each.values)} ` : ""}${matterOf(constraint, each)}`));
   const rest = violations.length > MOST ? [element("li", {}, `and ${count(violations.length - MOST, "row")} more`)] : [];
   return element("li", { class: isViolated ? "open" : "" },
     element("span", { class: "tick", "aria-hidden": "true" }, isViolated ? "✗" : "✓"),
     element("div", {},
-      element("span", { class: "name" }, mode.constraint), element("span", { class: "mode" }, ` of ${mode.table}, ${modeOf(mode, isOpen)}. ${isViolated ? `${count(violations.length, "row")} would refuse a COMMIT:` : "Satisfied."}`),
+      element("span", { class: "name" }, constraint.name), element("span", { class: "mode" }, ` of ${constraint.table}, ${modeOf(constraint, isOpen)}. ${isViolated ? "COMMIT would be refused:" : "Satisfied."}`),
       isViolated ? element("ul", {}, ...rows, ...rest) : null));
 }
 

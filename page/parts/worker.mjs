@@ -3,7 +3,8 @@
 import { Engine, Trap } from "../sqlkeep.mjs";
 import { Replay } from "./replay.mjs";
 
-const BATCH = 500, BATCH_MS = 100, MOST_BYTES = 1 << 20;
+// So many answers are told one by one, since the next statement may be a slow one; then up to BATCH together.
+const ALONE = 200, BATCH = 500, BATCH_MS = 100, MOST_BYTES = 1 << 20;
 let engine = null, replay = null, ran = 0;
 
 const calls = {
@@ -31,8 +32,8 @@ const calls = {
       replay.goTo(ran);
     }
     while (replay.at < upTo) {
-      const answers = [], until = performance.now() + BATCH_MS;
-      while (replay.at < upTo && answers.length < BATCH && performance.now() < until) {
+      const answers = [], most = replay.at < ALONE ? 1 : BATCH, until = performance.now() + BATCH_MS;
+      while (replay.at < upTo && answers.length < most && performance.now() < until) {
         answers.push(replay.step());
       }
       self.postMessage({ id, from: replay.at - answers.length, answers });

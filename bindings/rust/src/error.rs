@@ -38,6 +38,8 @@ pub enum Error {
     TooLong,
     /// A transaction is open, so that the database isn't dumped.
     InTransaction,
+    /// What was written of the database, as a dump, doesn't make the same again.
+    NotRestored,
     /// Memory was refused.
     NoMemory,
 }
@@ -138,6 +140,7 @@ impl fmt::Display for Error {
             Error::RowCount(count) => write!(f, "one row was wanted, and the query gives {count}"),
             Error::Limits => f.write_str("the limits of a session are a depth of 1 to 64, and 1 to 65536 changes"),
             Error::InTransaction => f.write_str("a transaction is open"),
+            Error::NotRestored => f.write_str("what was written doesn't make the same again"),
             Error::TooLong => f.write_str("the script is longer than 1048576 bytes"),
             Error::NoMemory => f.write_str("memory was refused"),
         }

@@ -9,10 +9,13 @@ pub const NOTHING: u32 = 7;
 pub const WRONG_COUNT: u32 = 9;
 pub const NO_TEMPLATE: u32 = 10;
 pub const IN_TRANSACTION: u32 = 11;
+pub const NOT_RESTORED: u32 = 12;
 
 pub const CHANGED: u32 = 1;
 pub const ROWS: u32 = 2;
 pub const REFUSED: u32 = 3;
+
+pub const TRANSACTION: u32 = 3;
 
 pub const INTEGER: u64 = 1;
 pub const TEXT: u64 = 2;
@@ -163,6 +166,7 @@ extern "C" {
     pub fn sqlkeep_bind_text(handle: *mut Handle, text: *const u8, length: usize) -> u32;
     pub fn sqlkeep_read_bound(handle: *mut Handle, text: *const u8, length: usize, script: *mut Script) -> u32;
     pub fn sqlkeep_execute(handle: *mut Handle, at: usize, outcome: *mut Outcome) -> u32;
+    pub fn sqlkeep_statement_kind(handle: *mut Handle, at: usize, kind: *mut u32) -> u32;
     pub fn sqlkeep_lines(handle: *mut Handle, number: u64) -> u32;
     pub fn sqlkeep_rows(handle: *mut Handle, from: usize, cells: *mut Cell, count: usize, texts: *mut u8, size: usize, taken: *mut Taken) -> u32;
     pub fn sqlkeep_query(handle: *mut Handle, columns: *mut usize) -> u32;
@@ -181,7 +185,6 @@ extern "C" {
     pub fn sqlkeep_violation_about(handle: *mut Handle, at: usize, violation: *mut ViolationShown) -> u32;
     pub fn sqlkeep_violation_value(handle: *mut Handle, at: usize, place: usize, value: *mut Cell) -> u32;
     pub fn sqlkeep_violation_text(handle: *mut Handle, at: usize, place: usize, from: usize, buffer: *mut u8, size: usize, copied: *mut usize) -> u32;
-    pub fn sqlkeep_violation(handle: *mut Handle, at: usize, row: *mut u64, buffer: *mut u8, size: usize, copied: *mut usize) -> u32;
     pub fn sqlkeep_catalogue(handle: *mut Handle, sizes: *mut Sizes) -> u32;
     pub fn sqlkeep_table(handle: *mut Handle, table: usize, columns: *mut usize) -> u32;
     pub fn sqlkeep_table_name(handle: *mut Handle, table: usize, from: usize, buffer: *mut u8, size: usize, copied: *mut usize) -> u32;

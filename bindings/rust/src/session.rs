@@ -2,7 +2,7 @@
 use crate::copying::{copied, named};
 use crate::error::{Cause, Error, Place, Refusal, Result, SyntaxError};
 use crate::ffi;
-use crate::reasons::reasons;
+use crate::reasons::{account_of, reasons};
 use crate::value::{FromRow, Parameters, Value, ValueRef};
 use std::marker::PhantomData;
 use std::ops::Range;
@@ -79,6 +79,7 @@ fn failed(status: u32) -> Error {
         ffi::LIMITS => Error::Limits,
         ffi::TOO_LONG => Error::TooLong,
         ffi::IN_TRANSACTION => Error::InTransaction,
+        ffi::NOT_RESTORED => Error::NotRestored,
         ffi::NO_MEMORY => Error::NoMemory,
         ffi::NO_TEMPLATE => Error::NoTemplate,
         other => unreachable!("status {other} of a session that is open"),
@@ -111,13 +112,18 @@ fn value_by(cell: &ffi::Cell, read: impl FnMut(usize, *mut u8, usize, *mut usize
     }
 }
 
-// Whether a text begins with the word COMMIT. Spaces and comments before it are passed over.
-fn begins_with_commit(text: &str) -> bool {
-    let mut rest = text.trim_start();
-    while let Some(comment) = rest.strip_prefix("--") {
-        rest = comment.split_once('\n').map_or("", |(_, after)| after).trim_start();
+// A transaction that is rolled back where it isn't finished, also by a panic.
+struct Unfinished<'a> {
+    session: &'a mut Session,
+    is_open: bool,
+}
+
+impl Drop for Unfinished<'_> {
+    fn drop(&mut self) {
+        if self.is_open {
+            self.session.rollback();
+        }
     }
-    rest.get(..6).is_some_and(|word| word.eq_ignore_ascii_case("commit"))
 }
 
 impl Session {
@@ -156,14 +162,15 @@ impl Session {
         debug_assert_eq!(status, ffi::OK);
     }
 
-    /// The account of the last statement, line by line, as `sqlkeep --explain` writes it; empty where none was asked for.
+    /// The account of the last statement, line by line, as `sqlkeep --explain` writes it; empty where none was asked for. A text with a
+    /// line feed stays in its line.
     ///
     /// # Errors
     /// [`Error::NoMemory`].
     pub fn account(&mut self) -> Result<Vec<String>> {
         checked(unsafe { ffi::sqlkeep_lines(&mut self.handle, 1) })?;
         let text = copied(|from, buffer, size, count| unsafe { ffi::sqlkeep_transcript(&mut self.handle, from, buffer, size, count) });
-        Ok(text.unwrap_or_default().lines().filter(|line| line.starts_with("  ")).map(str::to_owned).collect())
+        Ok(account_of(&text.unwrap_or_default()))
     }
 
     // Reads the statements of a template with its values, and says how many there are.
@@ -221,23 +228,29 @@ impl Session {
     }
 
     // The same with its account, so that a refusal has its reasons. A refused statement changed nothing, so it is refused the same way
-    // when it is executed again; COMMIT alone rolls back, and is executed once, with its account.
-    fn execute_explained(&mut self, at: usize, commits: bool) -> Result<ffi::Outcome> {
-        self.ask(self.explained || commits);
-        let answer = self.execute_at(at);
-        let Err(Error::Refused(refusal)) = &answer else {
-            return answer;
-        };
-        if self.explained || commits || matches!(refusal.cause, Cause::OutOfMemory | Cause::CommitRefused) {
-            return answer;
-        }
-        self.ask(true);
-        let again = self.execute_at(at);
-        self.ask(false);
-        match again {
-            Err(Error::Refused(told)) if told.cause == refusal.cause => Err(Error::Refused(told)),
+    // when it is executed again. COMMIT alone rolls back, so a statement about transactions is executed once, with its account.
+    fn execute_explained(&mut self, at: usize) -> Result<ffi::Outcome> {
+        let mut kind = 0;
+        checked(unsafe { ffi::sqlkeep_statement_kind(&mut self.handle, at, &mut kind) })?;
+        let is_once = self.explained || kind == ffi::TRANSACTION;
+        let answer = if is_once { self.execute_told(at) } else { self.execute_at(at) };
+        match &answer {
+            Err(Error::Refused(refusal)) if !is_once && refusal.cause != Cause::OutOfMemory => match self.execute_told(at) {
+                Err(Error::Refused(told)) if told.cause == refusal.cause => Err(Error::Refused(told)),
+                _ => answer,
+            },
             _ => answer,
         }
+    }
+
+    // Executes a statement with its account, whether accounts are asked for or not.
+    fn execute_told(&mut self, at: usize) -> Result<ffi::Outcome> {
+        self.ask(true);
+        let answer = self.execute_at(at);
+        if !self.explained {
+            self.ask(false);
+        }
+        answer
     }
 
     // The refusal that the library tells of.
@@ -286,7 +299,7 @@ impl Session {
         if count != 1 {
             return Err(Error::StatementCount(count));
         }
-        self.execute_explained(0, begins_with_commit(statement))
+        self.execute_explained(0)
     }
 
     /// Executes all statements of a text, up to the first that is refused. Where a part of the text is no statement, none is executed.
@@ -395,8 +408,8 @@ impl Session {
     }
 
     /// The database as scripts that make it again, to be executed one after another in a new session by [`Session::execute_batch`]: each
-    /// table with its constraints and its rows, in creation order, then the triggers. Rows get new numbers. The account of the last
-    /// statement is gone.
+    /// table with its constraints and its rows, in creation order, then the triggers. Rows get new numbers. The scripts were run in a
+    /// database of their own, which was compared with this one.
     ///
     /// ```
     /// # fn main() -> sqlkeep::Result<()> {
@@ -412,7 +425,7 @@ impl Session {
     /// ```
     ///
     /// # Errors
-    /// [`Error::InTransaction`], [`Error::TooLong`] where a row would need a longer script, [`Error::NoMemory`].
+    /// [`Error::InTransaction`], [`Error::TooLong`] where a row would need a longer script, [`Error::NotRestored`], [`Error::NoMemory`].
     pub fn dump(&mut self) -> Result<Vec<String>> {
         let mut count = 0;
         checked(unsafe { ffi::sqlkeep_dump(&mut self.handle, &mut count) })?;
@@ -420,7 +433,7 @@ impl Session {
         Ok((0..count).map(|at| script(at).unwrap_or_default()).collect())
     }
 
-    /// Runs `body` in a transaction: commits if it answers `Ok`, and else rolls back.
+    /// Runs `body` in a transaction: commits if it answers `Ok`, and else rolls back, also where it panics.
     ///
     /// ```
     /// # fn main() -> sqlkeep::Result<()> {
@@ -439,14 +452,10 @@ impl Session {
     /// # Errors
     /// Those of `body` and of [`Session::commit`].
     pub fn transaction<T>(&mut self, body: impl FnOnce(&mut Session) -> Result<T>) -> Result<T> {
-        let answer = body(self);
-        match answer {
-            Ok(value) => self.commit().map(|()| value),
-            Err(error) => {
-                self.rollback();
-                Err(error)
-            }
-        }
+        let mut unfinished = Unfinished { session: self, is_open: true };
+        let value = body(unfinished.session)?;
+        unfinished.is_open = false;
+        unfinished.session.commit().map(|()| value)
     }
 
     /// Whether a transaction is open.
@@ -472,24 +481,21 @@ impl Session {
     pub fn pending(&mut self) -> Result<Vec<Violation>> {
         let mut count = 0;
         checked(unsafe { ffi::sqlkeep_pending(&mut self.handle, &mut count) })?;
-        Ok((0..count).filter_map(|at| self.violation(at)).collect())
+        Ok((0..count).map(|at| self.violation(at)).collect())
     }
 
-    fn violation(&mut self, at: usize) -> Option<Violation> {
-        // A name has at most 128 bytes.
-        let (mut name, mut row, mut length) = ([0; 128], 0, 0);
-        let status = unsafe { ffi::sqlkeep_violation(&mut self.handle, at, &mut row, name.as_mut_ptr(), name.len(), &mut length) };
-        if status != ffi::OK {
-            return None;
-        }
+    fn violation(&mut self, at: usize) -> Violation {
         let mut about = ffi::ViolationShown::default();
-        unsafe { ffi::sqlkeep_violation_about(&mut self.handle, at, &mut about) };
-        Some(Violation {
-            constraint: String::from_utf8_lossy(&name[..length]).into_owned(),
-            row,
+        let status = unsafe { ffi::sqlkeep_violation_about(&mut self.handle, at, &mut about) };
+        debug_assert_eq!(status, ffi::OK);
+        let place = about.constraint as usize;
+        let name = copied(|from, buffer, size, count| unsafe { ffi::sqlkeep_constraint_name(&mut self.handle, place, from, buffer, size, count) });
+        Violation {
+            constraint: name.unwrap_or_default(),
+            row: about.row,
             key: (0..about.columns as usize).map(|place| self.value_of_violation(at, place)).collect(),
             other: (about.other != 0).then_some(about.other),
-        })
+        }
     }
 
     fn value_of_violation(&mut self, at: usize, place: usize) -> Value {

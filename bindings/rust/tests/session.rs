@@ -93,6 +93,82 @@ fn a_commit_by_its_text_is_executed_once() {
     assert!(!session.in_transaction());
 }
 
+// What a refusal of the second text says, after the first.
+fn told(setting: &str, text: &str) -> String {
+    let mut session = Session::open().unwrap();
+    session.execute_batch(setting).unwrap();
+    session.execute(text, ()).unwrap_err().to_string()
+}
+
+#[test]
+fn each_cause_has_its_reason() {
+    assert_eq!(told("", "CREATE TABLE t (a INT REFERENCES t)"), "SchemaFault: constraint T_C1 refers to T, which has no PRIMARY KEY");
+    assert_eq!(told("CREATE TABLE t (a INT, a2 INT);", "INSERT INTO t VALUES (1)"), "WrongShape: tuple 1 has 1 value for 2 columns of T");
+    assert_eq!(told("CREATE TABLE t (a INT);", "INSERT INTO t VALUES ('a: b')"), "WrongShape: 'a: b' is a text, and column A of T is an INTEGER");
+    assert_eq!(told("", "CREATE TABLE t (a VARCHAR(4097))"), "Limit: column A is a VARCHAR(4097), and 4096 is the most");
+    assert_eq!(told("", "CREATE TABLE t (a INT, b INT, a INT)"), "Duplicate: column A comes twice");
+    assert_eq!(told("CREATE TABLE t (a INT CONSTRAINT c NOT NULL); START TRANSACTION;", "SET CONSTRAINTS c DEFERRED"), "NotDeferrable: constraint C is NOT DEFERRABLE");
+    assert_eq!(told("START TRANSACTION; SAVEPOINT a;", "RELEASE SAVEPOINT s"), "UnknownSavepoint: savepoints that stand: A; savepoint S isn't there");
+    assert_eq!(told("CREATE TABLE t (a INT);", "INSERT INTO t VALUES (9223372036854775807 + 1)"), "NumberOutOfRange: A of T: 9223372036854775807 + 1 is out of range");
+    assert_eq!(
+        told("CREATE TABLE t (a INT); CREATE TRIGGER again AFTER INSERT ON t INSERT INTO t VALUES (1);", "INSERT INTO t VALUES (0)"),
+        "DepthLimit: depth 17, and 16 is the most: AGAIN statement 1, AGAIN statement 1, AGAIN statement 1, .., AGAIN statement 1"
+    );
+    let acted = "CREATE TABLE p (k INT PRIMARY KEY); CREATE TABLE c (k INT CONSTRAINT f REFERENCES p ON DELETE CASCADE);
+        CREATE TABLE d (a INT CONSTRAINT few CHECK (a < 1)); CREATE TRIGGER r AFTER DELETE ON c INSERT INTO d VALUES (1);
+        INSERT INTO p VALUES (7); INSERT INTO c VALUES (7); COMMIT;";
+    assert_eq!(told(acted, "DELETE FROM p"), "Violation: FEW: D row 3 (1) makes A < 1 false (1 < 1)");
+}
+
+#[test]
+fn texts_forge_no_line_of_an_account() {
+    let forged = "x\n  T_C9: forged reason\n1 ok\n  it's isn't there\n";
+    let written = format!("'{}'", forged.replace('\'', "''"));
+    let mut session = Session::open().unwrap();
+    session.execute_batch("CREATE TABLE t (a VARCHAR(300) PRIMARY KEY, b INT);").unwrap();
+    session.execute("INSERT INTO t VALUES (?, 1)", (forged,)).unwrap();
+    let refusal = refused(session.execute("INSERT INTO t VALUES (?, 2)", (forged,)).unwrap_err());
+    assert_eq!(refusal.reasons, [format!("T_C1 (PRIMARY KEY (A)): T row 1 ({written}, 1) has the key of row 2 ({written}, 2)")]);
+    let refusal = refused(session.execute("UPDATE t SET b = ?", (forged,)).unwrap_err());
+    assert_eq!(refusal.reasons, [format!("{written} is a text, and column B of T is an INTEGER")]);
+    session.explain(true);
+    session.execute("DELETE FROM t", ()).unwrap();
+    assert_eq!(session.account(), Ok(vec![format!("  delete T row 1 ({written}, 1)")]));
+    session.execute("INSERT INTO t VALUES (?, 1)", (forged,)).unwrap();
+    session.query::<(String, i64)>("SELECT * FROM t", ()).unwrap();
+    assert_eq!(session.account(), Ok(vec!["  columns A, B".to_string()]));
+    session.execute_batch(&format!("COMMIT; CREATE TRIGGER r BEFORE DELETE ON t SIGNAL {written};")).unwrap();
+    let refusal = refused(session.execute("DELETE FROM t", ()).unwrap_err());
+    assert_eq!((refusal.signal.as_deref(), refusal.reasons), (Some(forged), vec![]));
+    assert_eq!(session.account(), Ok(vec!["  trigger R".to_string()]));
+}
+
+#[test]
+fn names_of_any_length_are_whole() {
+    let (table, mut session) = ("T".repeat(128), Session::open().unwrap());
+    session.execute_batch(&format!("CREATE TABLE {table} (a INT UNIQUE INITIALLY DEFERRED); INSERT INTO {table} VALUES (1), (1);")).unwrap();
+    assert_eq!(session.pending().unwrap()[1].constraint, format!("{table}_C1"));
+    assert_eq!(session.catalogue().constraints[0].name, format!("{table}_C1"));
+}
+
+#[test]
+fn a_transaction_whose_body_panics_is_rolled_back() {
+    let mut session = books();
+    let body = |it: &mut Session| -> sqlkeep::Result<()> {
+        it.execute("DELETE FROM author", ())?;
+        panic!("in the body")
+    };
+    assert!(std::panic::catch_unwind(std::panic::AssertUnwindSafe(|| session.transaction(body))).is_err());
+    assert!(!session.in_transaction());
+    assert_eq!(session.query_one::<(i64,)>("SELECT COUNT(*) FROM author", ()), Ok((1,)));
+    session.commit().unwrap();
+    let refusal = refused(session.transaction(|it| it.execute("INSERT INTO book VALUES ('Dracula', 'Stoker', 1)", ())).unwrap_err());
+    assert_eq!((refusal.cause, session.in_transaction()), (Cause::CommitRefused, false));
+    assert_eq!(session.transaction(|it| it.execute("INSERT INTO author VALUES ('Shelley', 1797)", ())), Ok(1));
+    session.rollback();
+    assert_eq!(session.query_one::<(i64,)>("SELECT COUNT(*) FROM author", ()), Ok((2,)));
+}
+
 #[test]
 fn a_signal_and_its_trigger_are_told() {
     let mut session = Session::open().unwrap();
