@@ -8,7 +8,7 @@ from pathlib import Path
 from typing import Any, Sequence
 
 from ..errors import ProgrammingError
-from .compare import SCHEMA, Comparison, SchemaInUse, compared
+from .compare import SCHEMA, Comparison, Difference, SchemaInUse, ServerGone, compared
 from .translate import psql_script, translated
 
 __all__ = ["COMMANDS", "main"]
@@ -20,7 +20,7 @@ def parser() -> argparse.ArgumentParser:
     made = argparse.ArgumentParser(prog="python -m sqlkeep", description="Takes a script to PostgreSQL.")
     commands = made.add_subparsers(dest="command", required=True)
     to = commands.add_parser("to-postgresql", help="writes a script for psql")
-    both = commands.add_parser("compare", help="runs a script here and in PostgreSQL, and tells the first difference")
+    both = commands.add_parser("compare", help="runs a script here and in PostgreSQL, and tells the differences")
     both.add_argument("--postgresql", metavar="DSN", required=True, help="the server, as psql takes it: 'host=/tmp dbname=test'")
     both.add_argument("--schema", default=SCHEMA, help=f"a schema that isn't there, made and removed again; {SCHEMA} if it isn't given")
     for each in (to, both):
@@ -31,16 +31,31 @@ def parser() -> argparse.ArgumentParser:
 
 
 def script_of(file: str) -> str:
-    return sys.stdin.read() if file == "-" else Path(file).read_text(encoding="utf-8")
+    """The script of a file, with each of its line ends as it is."""
+    return (sys.stdin.buffer.read() if file == "-" else Path(file).read_bytes()).decode()
+
+
+def write(script: str) -> None:
+    """Writes a script as UTF-8, whatever the locale is."""
+    sys.stdout.flush()
+    sys.stdout.buffer.write(script.encode())
+    sys.stdout.buffer.flush()
 
 
 def told(found: Comparison) -> str:
     """A comparison in words."""
-    if found.translation is None or found.here is None or found.there is None:
-        return f"{found.same} of {found.total} statements answer the same.\n"
-    lines = [f"{found.same} of {found.total} statements answer the same; then this one doesn't:", "", found.translation.text, ""]
-    lines += [f"here: {found.here}", *found.translation.outcome.lines.rstrip("\n").split("\n"), f"PostgreSQL: {found.there}", ""]
-    lines += [f"foretold: {reason}" for reason in found.reasons] or ["not foretold"]
+    head = f"{found.same} of {found.total} statements answer the same.\n"
+    left = found.total - len(found.translations)
+    end = f"\n{left} statements behind it were not compared, since what it left differs.\n" if left else ""
+    return head + "".join(map(told_of, found.differences)) + end
+
+
+def told_of(difference: Difference) -> str:
+    """A difference in words."""
+    lines = ["", difference.translation.text, "", f"here: {difference.here}", *difference.translation.outcome.lines.rstrip("\n").split("\n"), f"PostgreSQL: {difference.there}"]
+    for table, (here, there) in difference.tables.items():
+        lines += [f"{table} here: {here}", f"{table} in PostgreSQL: {there}"]
+    lines += ["", *([f"foretold: {reason}" for reason in difference.reasons] or ["not foretold"])]
     return "\n".join(lines) + "\n"
 
 
@@ -57,10 +72,7 @@ def compare(given: argparse.Namespace, script: str) -> int:
     module = client()
     try:
         found = compared(script, lambda: module.connect(given.postgresql), (module.Error,), given.depth, given.changes, given.schema)
-    except SchemaInUse as error:
-        print(f"sqlkeep: {error}", file=sys.stderr)
-        return 2
-    except module.OperationalError as error:
+    except (SchemaInUse, ServerGone, module.Error) as error:
         print(f"sqlkeep: {str(error).strip()}", file=sys.stderr)
         return 2
     sys.stdout.write(told(found))
@@ -74,7 +86,7 @@ def main(words: Sequence[str]) -> int:
         script = script_of(given.file)
         if given.command == "compare":
             return compare(given, script)
-        sys.stdout.write(psql_script(translated(script, given.depth, given.changes)))
+        write(psql_script(translated(script, given.depth, given.changes)))
     except (OSError, UnicodeDecodeError) as error:
         print(f"sqlkeep: cannot read the script: {error}", file=sys.stderr)
         return 2

@@ -1,26 +1,28 @@
-"""A script in this engine and in PostgreSQL, statement by statement, up to the first difference.
+"""A script in this engine and in PostgreSQL, statement by statement, with the rows of all tables.
 
 Everything happens in a schema that is made for it and removed again. Nothing else on the server is touched.
 """
 from __future__ import annotations
 
 from dataclasses import dataclass, field
-from typing import TYPE_CHECKING, Any, Callable
+from typing import Any, Callable
 
 from ..catalogue import Catalogue
+from ..session import Session
 from ..values import Value, write_values
-from .names import identifier
-from .translate import Translation, translated
+from .quoting import Sql, identifier, name, sql
+from .translate import Translation, Translator
 
-if TYPE_CHECKING:
-    from typing import Iterator, Tuple
-
-__all__ = ["Answer", "Comparison", "SchemaInUse", "compared"]
+__all__ = ["SCHEMA", "Answer", "Comparison", "Difference", "SchemaInUse", "ServerGone", "compared"]
 
 SCHEMA = "sqlkeep_compare"
 GUARD = "sqlkeep_guard"
 # Statements that no savepoint can stand around, since they begin or end a transaction or make a savepoint themselves.
 BARE = ("BEGIN", "COMMIT", "ROLLBACK", "SAVEPOINT")
+SETTINGS = ("SET standard_conforming_strings = on", "SET client_min_messages TO error")
+# Statements that may change rows, and those whose effect is in the rows and the transaction alone.
+CHANGING = ("INSERT", "UPDATE", "DELETE", "COMMIT", "ROLLBACK")
+ENDED = (*CHANGING[:4], "SELECT")
 NOT_NULL, RAISED = "23502", "45000"
 
 
@@ -47,22 +49,41 @@ class Answer:
 
 
 @dataclass
-class Comparison:
-    """What was compared: how many statements answered the same, and the first that didn't, with both answers."""
+class Difference:
+    """A statement that answers otherwise in PostgreSQL or leaves other rows: both answers, the tables whose rows differ with these, and
+    why the statement was said to differ."""
 
-    same: int = 0
+    translation: Translation
+    here: Answer
+    there: Answer
+    tables: dict[str, tuple[Answer, Answer]]
+    reasons: list[str]
+
+    @property
+    def is_foretold(self) -> bool:
+        """Whether a note at the statement said that PostgreSQL may answer otherwise."""
+        return bool(self.reasons)
+
+
+@dataclass
+class Comparison:
+    """What was compared: how many statements there are, how many answered the same, the differences, and the statements that were
+    compared. It ends at a difference that isn't foretold, or that leaves another database or transaction."""
+
     total: int = 0
-    translation: Translation | None = None
-    here: Answer | None = None
-    there: Answer | None = None
-    #: Whether PostgreSQL's answer was said to be possibly another one, of this statement or of one before it.
-    is_foretold: bool = False
-    reasons: list[str] = field(default_factory=list)
+    same: int = 0
+    differences: list[Difference] = field(default_factory=list)
+    translations: list[Translation] = field(default_factory=list)
 
     @property
     def is_same(self) -> bool:
         """Whether all statements answered the same."""
-        return self.translation is None
+        return not self.differences
+
+    @property
+    def is_foretold(self) -> bool:
+        """Whether a note said of each difference that PostgreSQL may answer otherwise."""
+        return all(each.is_foretold for each in self.differences)
 
 
 def here_of(translation: Translation) -> Answer:
@@ -74,7 +95,7 @@ def here_of(translation: Translation) -> Answer:
     return Answer(refused=str(error), by=error.constraint or (error.trigger if error.cause == 15 else None))
 
 
-def constraint_named(error: Any, catalogue: Catalogue) -> str | None:
+def constraint_named(error: Any, translator: Translator, catalogue: Catalogue) -> str | None:
     """What refused a statement there: a constraint, or the trigger that raised."""
     diagnostics = error.diag
     if diagnostics.sqlstate == RAISED:
@@ -82,7 +103,11 @@ def constraint_named(error: Any, catalogue: Catalogue) -> str | None:
     if diagnostics.sqlstate == NOT_NULL:
         table, column = (diagnostics.table_name or "").upper(), (diagnostics.column_name or "").upper()
         return next((each.name for each in catalogue.constraints_of(table) if each.kind in ("NOT NULL", "PRIMARY KEY") and column in each.columns), None)
-    return (diagnostics.constraint_name or "").upper() or None
+    return translator.constraints.get(diagnostics.constraint_name or "")
+
+
+class ServerGone(Exception):
+    """The connection to the server ended while a script ran."""
 
 
 class Server:
@@ -91,46 +116,59 @@ class Server:
     def __init__(self, connect: Callable[[], Any], schema: str = SCHEMA) -> None:
         self._connection, self._schema = connect(), schema
         self._connection.autocommit = True
+        self._connection.set_client_encoding("UTF8")
         self._cursor = self._connection.cursor()
         self._cursor.execute("SELECT count(*) FROM pg_namespace WHERE nspname = %s", (schema,))
         if self._cursor.fetchone()[0]:
             self._connection.close()
             raise SchemaInUse(f"the schema {schema} is there already; drop it, or name another one")
-        self._cursor.execute(f"CREATE SCHEMA {identifier(schema)}")
-        self._cursor.execute(f"SET search_path TO {identifier(schema)}")
-        self._cursor.execute("SET client_min_messages TO error")
+        for statement in SETTINGS:
+            self._cursor.execute(statement)
+        self._execute(sql("CREATE SCHEMA {}", identifier(schema)))
+        self._execute(sql("SET search_path TO {}", identifier(schema)))
+
+    def _execute(self, statement: Sql) -> None:
+        self._cursor.execute(str(statement))
 
     def close(self) -> None:
         """Removes the schema."""
-        self._cursor.execute("ROLLBACK")
-        self._cursor.execute(f"DROP SCHEMA {identifier(self._schema)} CASCADE")
-        self._connection.close()
+        if not self._connection.closed:
+            self._cursor.execute("ROLLBACK")
+            self._execute(sql("DROP SCHEMA {} CASCADE", identifier(self._schema)))
+            self._connection.close()
 
     def is_open(self) -> bool:
         """Whether a transaction is open."""
         return bool(self._connection.info.transaction_status)
 
-    def run(self, statement: str) -> Answer:
+    def run(self, statement: Sql) -> Answer:
         """A statement, which leaves the transaction as it was if it is refused."""
-        first = statement.split(None, 1)[0].upper()
-        is_guarded = self.is_open() and (first not in BARE or " TO SAVEPOINT" in statement.upper())
+        first = str(statement).split(None, 1)[0]
+        is_guarded = self.is_open() and (first not in BARE or str(statement).startswith("ROLLBACK TO SAVEPOINT"))
         if is_guarded:
             self._cursor.execute(f"SAVEPOINT {GUARD}")
-        self._cursor.execute(statement)
+        self._execute(statement)
         rows = self._cursor.fetchall() if self._cursor.description else None
         count = self._cursor.rowcount if first in ("INSERT", "UPDATE", "DELETE") else None
         if is_guarded and first not in ("RELEASE", "ROLLBACK"):
             self._cursor.execute(f"RELEASE SAVEPOINT {GUARD}")
         return Answer(count, rows)
 
+    def rows(self, table: str) -> Answer:
+        """The rows of a table."""
+        self._execute(sql("SELECT * FROM {}", name(table)))
+        return Answer(rows=self._cursor.fetchall())
+
     def undo(self) -> None:
         """Goes back behind a refused statement."""
+        if self._connection.closed:
+            raise ServerGone("the server closed the connection")
         if self._connection.info.transaction_status == 3:
             self._cursor.execute(f"ROLLBACK TO SAVEPOINT {GUARD}")
             self._cursor.execute(f"RELEASE SAVEPOINT {GUARD}")
 
 
-def there_of(server: Server, translation: Translation, catalogue: Catalogue, errors: tuple[type[Exception], ...]) -> Answer:
+def there_of(server: Server, translation: Translation, translator: Translator, errors: tuple[type[Exception], ...]) -> Answer:
     """What PostgreSQL answers: that of the last of the statements that isn't made for the transaction alone."""
     answer = Answer()
     for statement in translation.statements:
@@ -138,9 +176,9 @@ def there_of(server: Server, translation: Translation, catalogue: Catalogue, err
             found = server.run(statement)
         except errors as error:
             server.undo()
-            answer = Answer(refused=str(error).split("\n", 1)[0], by=constraint_named(error, catalogue))
-            if translation.statements[-1] == "ROLLBACK" and server.is_open():
-                server.run("ROLLBACK")
+            answer = Answer(refused=str(error).split("\n", 1)[0], by=constraint_named(error, translator, translation.catalogue))
+            if str(translation.statements[-1]) == "ROLLBACK" and server.is_open():
+                server.run(translation.statements[-1])
             break
         if found.count is not None or found.rows is not None:
             answer = found
@@ -164,27 +202,38 @@ def are_same(here: Answer, there: Answer) -> bool:
     return here.rows is None and there.rows is None and here.count == there.count
 
 
-def steps(translations: list[Translation]) -> Iterator[Tuple[Translation, list[str]]]:
-    """Each statement, with what was said to differ up to it."""
-    told: list[str] = []
-    for each in translations:
-        told = told + [reason for reason in each.differs if reason not in told]
-        yield each, told
+def other_rows(session: Session, server: Server) -> dict[str, tuple[Answer, Answer]]:
+    """The tables whose rows differ, with those here and there."""
+    session.explain = False
+    found = {table: (Answer(rows=session.execute(f"SELECT * FROM {table}").rows), server.rows(table)) for table in session.catalogue.tables}
+    session.explain = True
+    return {table: (here, there) for table, (here, there) in found.items() if not are_same(here, there)}
+
+
+def step(translation: Translation, translator: Translator, server: Server, errors: tuple[type[Exception], ...], found: Comparison) -> bool:
+    """Compares a statement, and answers whether the next one can be compared too."""
+    here, there = here_of(translation), there_of(server, translation, translator, errors)
+    found.translations.append(translation)
+    tables = other_rows(translator.session, server) if translation.event in CHANGING else {}
+    is_left_same = not tables and translator.session.in_transaction == server.is_open()
+    if are_same(here, there) and is_left_same:
+        found.same += 1
+        return True
+    found.differences.append(Difference(translation, here, there, tables, translation.differs))
+    return is_left_same and bool(translation.differs) and translation.event in ENDED
 
 
 def compared(script: str, connect: Callable[[], Any], errors: tuple[type[Exception], ...], depth: int = 16, changes: int = 65_536, schema: str = SCHEMA) -> Comparison:
-    """Runs a script in both, up to the first difference. `connect` makes a connection, as `lambda: psycopg2.connect(dsn)` does, and
-    `errors` are the exceptions of a refused statement, as `psycopg2.Error`."""
-    translations = translated(script, depth, changes)
-    found = Comparison(total=len(translations))
-    server = Server(connect, schema)
-    try:
-        for each, told in steps(translations):
-            here, there = here_of(each), there_of(server, each, each.catalogue, errors)
-            if not are_same(here, there):
-                found.translation, found.here, found.there, found.is_foretold, found.reasons = each, here, there, bool(told), told
-                return found
-            found.same += 1
-    finally:
-        server.close()
+    """Runs a script in both. `connect` makes a connection, as `lambda: psycopg2.connect(dsn)` does, and `errors` are the exceptions of a
+    refused statement, as `psycopg2.Error`."""
+    with Session(depth, changes, explain=True) as session:
+        translator = Translator(session, script)
+        found = Comparison(total=len(translator.parts))
+        server = Server(connect, schema)
+        try:
+            for each in translator.steps():
+                if not step(each, translator, server, errors, found):
+                    break
+        finally:
+            server.close()
     return found

@@ -7,11 +7,14 @@ from ..catalogue import Catalogue
 from ..catalogue import Constraint as Made
 from ..session import Outcome
 from ..text import Token
-from .names import is_cut
+from .quoting import plain_name
 from .reading import Constraint, Trigger
 from .tables import KeyColumns
 
-__all__ = ["by_cause", "of_change", "of_keys", "of_names", "of_trigger"]
+__all__ = ["by_cause", "cut", "of_change", "of_keys", "of_names", "of_own_names", "of_trigger"]
+
+# Names are cut behind so many bytes there.
+LONGEST = 63
 
 BY_CAUSE = {
     2: "Duplicate here: PostgreSQL keeps the names of constraints and triggers table by table",
@@ -55,7 +58,17 @@ def of_keys(constraints: Iterable[Constraint]) -> list[str]:
 
 def of_names(names: Iterable[str]) -> list[str]:
     """Names that PostgreSQL cuts."""
-    return [f"PostgreSQL cuts {name[:20]}.. behind 63 characters" for name in names if is_cut(name)]
+    return [f"PostgreSQL cuts {name[:20]}.. behind {LONGEST} characters" for name in names if len(name) > LONGEST]
+
+
+def cut(name: str) -> str:
+    """A name as PostgreSQL keeps it."""
+    return name[:LONGEST]
+
+
+def of_own_names(names: Iterable[str]) -> list[str]:
+    """Names that are PostgreSQL's own, and are written in capitals."""
+    return [f"{name} is in capitals there, since PostgreSQL has a {name.lower()} of its own" for name in names if plain_name(name) == name and name != name.lower()]
 
 
 def of_trigger(trigger: Trigger, catalogue: Catalogue) -> list[str]:

@@ -26,10 +26,11 @@ class Reference:
 @dataclass
 class Constraint:
     """A constraint: `kind` is NOT NULL, UNIQUE, PRIMARY KEY, CHECK or FOREIGN KEY. One that isn't named in the text may get the name
-    that the engine gave it."""
+    that the engine gave it. `there` is its name in PostgreSQL if it isn't the same."""
 
     kind: str
     name: str | None = None
+    there: str | None = None
     is_named: bool = False
     columns: list[str] = field(default_factory=list)
     condition: list[Token] = field(default_factory=list)

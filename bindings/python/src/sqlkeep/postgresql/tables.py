@@ -6,17 +6,17 @@ foreign key refers to can't be deferrable there, and is tested row by row.
 """
 from __future__ import annotations
 
-from typing import Iterable, Sequence
+from typing import Iterable
 
-from ..text import KEYWORDS, Token
-from .names import columns, expression, identifier, quoted_text
+from .expressions import columns, expression
+from .quoting import EMPTY, Sql, body, identifier, joined, keywords, literal, name, number, of_token, plain_name, sql
 from .reading import Column, Constraint, Table
+from .triggers import function, lines_of
 
-__all__ = ["KeyColumns", "added", "created", "is_by_trigger", "is_of_column"]
+__all__ = ["KeyColumns", "added", "created", "is_by_trigger", "is_key", "is_of_column"]
 
 # The table and the columns of a key that some foreign key refers to.
 KeyColumns = tuple[str, frozenset[str]]
-DATA = KEYWORDS - {"ACTION", "ADD", "KEY"}
 
 
 def is_by_trigger(constraint: Constraint) -> bool:
@@ -29,83 +29,92 @@ def is_of_column(constraint: Constraint) -> bool:
     return constraint.kind == "NOT NULL" and not constraint.is_named and not constraint.is_deferrable
 
 
-def mode(constraint: Constraint) -> str:
+def is_key(constraint: Constraint) -> bool:
+    """Whether an index of its name stands for the constraint."""
+    return constraint.kind in ("UNIQUE", "PRIMARY KEY")
+
+
+def mode(constraint: Constraint) -> Sql:
     """DEFERRABLE and INITIALLY of a constraint, with a blank before."""
-    return "" if not constraint.is_deferrable else " DEFERRABLE INITIALLY " + ("DEFERRED" if constraint.is_deferred else "IMMEDIATE")
+    if not constraint.is_deferrable:
+        return EMPTY
+    return sql(" DEFERRABLE INITIALLY DEFERRED") if constraint.is_deferred else sql(" DEFERRABLE INITIALLY IMMEDIATE")
 
 
-def key_mode(table: str, constraint: Constraint, referenced: Iterable[KeyColumns]) -> str:
+def key_mode(table: str, constraint: Constraint, referenced: Iterable[KeyColumns]) -> Sql:
     if constraint.is_deferrable or (table, frozenset(constraint.columns)) in referenced:
         return mode(constraint)
-    return " DEFERRABLE INITIALLY IMMEDIATE"
+    return sql(" DEFERRABLE INITIALLY IMMEDIATE")
 
 
-def reference(constraint: Constraint) -> str:
+def reference(constraint: Constraint) -> Sql:
     to = constraint.reference
     assert to is not None
-    text = f"FOREIGN KEY {columns(constraint.columns)} REFERENCES {identifier(to.table)}"
-    text += f" {columns(to.columns)}" if to.columns else ""
-    text += " MATCH FULL" if to.is_full else ""
-    text += f" ON DELETE {to.on_delete}" if to.on_delete else ""
-    return text + (f" ON UPDATE {to.on_update}" if to.on_update else "") + mode(constraint)
+    parts = [sql("FOREIGN KEY {} REFERENCES {}", columns(constraint.columns), name(to.table))]
+    parts += [columns(to.columns)] if to.columns else []
+    parts += [sql("MATCH FULL")] if to.is_full else []
+    parts += [sql("ON DELETE {}", keywords(to.on_delete))] if to.on_delete else []
+    parts += [sql("ON UPDATE {}", keywords(to.on_update))] if to.on_update else []
+    return sql("{}{}", joined(" ", parts), mode(constraint))
 
 
-def condition(words: Sequence[Token]) -> str:
-    return expression(words, DATA)
+def called(table: str, constraint: Constraint) -> str:
+    """The name of a constraint in PostgreSQL; one that was refused and has none gets some name."""
+    return constraint.there or plain_name(constraint.name or f"{table}_check")
 
 
-def constraint_text(table: str, constraint: Constraint, referenced: Iterable[KeyColumns]) -> str:
+def constraint_text(table: str, constraint: Constraint, referenced: Iterable[KeyColumns]) -> Sql:
     """A constraint as an element of a table."""
-    name = f"CONSTRAINT {identifier(constraint.name)} " if constraint.name else ""
+    head = sql("CONSTRAINT {} ", identifier(called(table, constraint))) if constraint.name else EMPTY
     if constraint.kind == "FOREIGN KEY":
-        return name + reference(constraint)
+        return sql("{}{}", head, reference(constraint))
     if constraint.kind == "CHECK":
-        return f"{name}CHECK ({condition(constraint.condition)})"
+        return sql("{}CHECK ({})", head, expression(constraint.condition))
     if constraint.kind == "NOT NULL":
-        return f"{name}CHECK ({identifier(constraint.columns[0])} IS NOT NULL)"
-    equal = " NULLS NOT DISTINCT" if constraint.nulls_are_equal else ""
-    return f"{name}{constraint.kind}{equal} {columns(constraint.columns)}{key_mode(table, constraint, referenced)}"
+        return sql("{}CHECK ({} IS NOT NULL)", head, name(constraint.columns[0]))
+    equal = sql(" NULLS NOT DISTINCT") if constraint.nulls_are_equal else EMPTY
+    return sql("{}{}{} {}{}", head, keywords(constraint.kind), equal, columns(constraint.columns), key_mode(table, constraint, referenced))
 
 
-def column_text(column: Column, is_filled: bool) -> str:
-    kind = "bigint" if column.length is None else f'varchar({column.length}) COLLATE "C"'
-    default = "".join(token.word for token in column.default)
-    return f"{identifier(column.name)} {kind}" + (f" DEFAULT {default}" if default else "") + (" NOT NULL" if is_filled else "")
+def column_text(column: Column, is_filled: bool) -> Sql:
+    kind = sql("bigint") if column.length is None else sql('varchar({}) COLLATE "C"', number(column.length))
+    default = sql(" DEFAULT {}", joined("", map(of_token, column.default))) if column.default else EMPTY
+    return sql("{} {}{}{}", name(column.name), kind, default, sql(" NOT NULL") if is_filled else EMPTY)
 
 
-def broken_by(table: str, constraint: Constraint) -> str:
+def broken_by(table: str, constraint: Constraint) -> Sql:
     """What raises the constraint if a row of the table breaks it."""
-    name = constraint.name or f"{table}_check"
-    broken = f"({condition(constraint.condition)}) IS FALSE" if constraint.kind == "CHECK" else f"{identifier(constraint.columns[0])} IS NULL"
-    return (
-        f"    IF EXISTS (SELECT FROM {identifier(table)} WHERE {broken}) THEN\n"
-        f"        RAISE EXCEPTION USING ERRCODE = 'check_violation', MESSAGE = {quoted_text(name + ' is violated')}, CONSTRAINT = {quoted_text(name.lower())};\n"
-        "    END IF;\n"
+    there = called(table, constraint)
+    is_broken = sql("({}) IS FALSE", expression(constraint.condition)) if constraint.kind == "CHECK" else sql("{} IS NULL", name(constraint.columns[0]))
+    return sql(
+        "    IF EXISTS (SELECT FROM {} WHERE {}) THEN\n"
+        "        RAISE EXCEPTION USING ERRCODE = 'check_violation', MESSAGE = {}, CONSTRAINT = {};\n"
+        "    END IF;\n",
+        name(table), is_broken, literal(there + " is violated"), literal(there),
     )
 
 
-def trigger_of(table: str, constraint: Constraint) -> list[str]:
+def trigger_of(table: str, constraint: Constraint) -> list[Sql]:
     """The function and the constraint trigger that stand for a deferrable CHECK or NOT NULL. Each time it looks at the whole table."""
-    name = constraint.name or f"{table}_check"
+    there = called(table, constraint)
+    holds = identifier(there + "_holds")
     return [
-        f"CREATE FUNCTION {identifier(name + '_holds')}() RETURNS trigger LANGUAGE plpgsql AS $$\nBEGIN\n{broken_by(table, constraint)}    RETURN NULL;\nEND $$",
-        f"CREATE CONSTRAINT TRIGGER {identifier(name)} AFTER INSERT OR UPDATE ON {identifier(table)}{mode(constraint)}\n"
-        f"    FOR EACH ROW EXECUTE FUNCTION {identifier(name + '_holds')}()",
+        function(holds, sql("{}    RETURN NULL;\n", broken_by(table, constraint))),
+        sql("CREATE CONSTRAINT TRIGGER {} AFTER INSERT OR UPDATE ON {}{}\n    FOR EACH ROW EXECUTE FUNCTION {}()", identifier(there), name(table), mode(constraint), holds),
     ]
 
 
-def created(table: Table, referenced: Iterable[KeyColumns]) -> list[str]:
+def created(table: Table, referenced: Iterable[KeyColumns]) -> list[Sql]:
     """The statements that make a table, one element a line."""
     filled = {each.columns[0] for each in table.constraints if is_of_column(each)}
     parts = [column_text(column, column.name in filled) for column in table.columns]
     parts += [constraint_text(table.name, each, referenced) for each in table.constraints if not is_by_trigger(each) and not is_of_column(each)]
-    lines = ",\n".join("    " + part for part in parts)
     more = [text for each in table.constraints if is_by_trigger(each) for text in trigger_of(table.name, each)]
-    return [f"CREATE TABLE {identifier(table.name)} (\n{lines}\n)", *more]
+    return [sql("CREATE TABLE {} (\n{}\n)", name(table.name), joined(",\n", (sql("    {}", part) for part in parts))), *more]
 
 
-def added(table: str, constraint: Constraint, referenced: Iterable[KeyColumns]) -> list[str]:
+def added(table: str, constraint: Constraint, referenced: Iterable[KeyColumns]) -> list[Sql]:
     """The statements that add a constraint to a table."""
     if is_by_trigger(constraint):
-        return [f"DO $$ BEGIN\n{broken_by(table, constraint)}END $$", *trigger_of(table, constraint)]
-    return [f"ALTER TABLE {identifier(table)} ADD {constraint_text(table, constraint, referenced)}"]
+        return [sql("DO {}", body(lines_of(broken_by(table, constraint)))), *trigger_of(table, constraint)]
+    return [sql("ALTER TABLE {} ADD {}", name(table), constraint_text(table, constraint, referenced))]

@@ -6,55 +6,76 @@ transaction is open.
 from __future__ import annotations
 
 from dataclasses import dataclass, field
+from typing import Iterator
 
 from ..catalogue import Catalogue
+from ..errors import ProgrammingError
 from ..session import Outcome, Session
-from ..text import KEYWORDS, Token, tokens
+from ..text import Token, place_of, statements, tokens
 from . import differences, reading, tables, triggers
-from .names import columns, expression, identifier
+from .expressions import expression
+from .quoting import Sql, comment, identifier, joined, keywords, plain_name, sql
+from .savepoints import Savepoints
 from .tables import KeyColumns
 
-__all__ = ["Translation", "psql_script", "translated"]
+__all__ = ["Translation", "Translator", "psql_script", "translated"]
 
-DATA = KEYWORDS - {"ACTION", "ADD", "KEY"}
 EVENTS = {"INSERT": 2, "DELETE": 2, "UPDATE": 1}
 
 
 @dataclass
 class Translation:
     """A statement of a script: its text, what it answers here, the catalogue before it, its statements for PostgreSQL without
-    semicolons, and why PostgreSQL may answer otherwise."""
+    semicolons, why PostgreSQL may answer otherwise, and which of its names are others there."""
 
     text: str
     outcome: Outcome
     catalogue: Catalogue
-    statements: list[str] = field(default_factory=list)
+    statements: list[Sql] = field(default_factory=list)
     differs: list[str] = field(default_factory=list)
+    renamed: list[str] = field(default_factory=list)
     event: str = ""
 
 
-def referenced_keys(parts: list[str]) -> set[KeyColumns]:
-    """The keys that foreign keys refer to once the whole script has run."""
+@dataclass
+class Whole:
+    """What is known of a script when it has run: the keys that foreign keys refer to, and all tables."""
+
+    referenced: set[KeyColumns]
+    tables: set[str]
+
+
+def whole_of(parts: list[str]) -> Whole:
     with Session() as session:
         for part in parts:
             session.execute(part)
-        return {(each.referenced, frozenset(each.referenced_columns)) for each in session.catalogue.constraints.values() if each.referenced is not None}
+        made = session.catalogue
+        return Whole({(each.referenced, frozenset(each.referenced_columns)) for each in made.constraints.values() if each.referenced is not None}, {plain_name(table) for table in made.tables})
 
 
 class Translator:
-    """What is known so far of a script."""
+    """A script on its way, with what is known of it so far."""
 
-    def __init__(self, session: Session, referenced: set[KeyColumns]) -> None:
-        self._session, self._referenced = session, referenced
+    def __init__(self, session: Session, script: str) -> None:
+        self.session = session
+        self.parts = session.parts(script)
+        refuse_nul(script)
+        self._whole = whole_of(self.parts)
+        #: The name here of each constraint there.
+        self.constraints: dict[str, str] = {}
+        self._there: dict[str, str] = {}
         self._numbers: dict[str, int] = {}
         self._made = 0
         self._triggers: dict[str, reading.Trigger] = {}
-        self._savepoints: set[str] = set()
+        self._savepoints = Savepoints()
 
-    def take(self, text: str) -> Translation:
-        """Runs a statement here, and translates it."""
-        catalogue, was_open = self._session.catalogue, self._session.in_transaction
-        outcome = self._session.execute(text)
+    def steps(self) -> Iterator[Translation]:
+        """Runs the statements here, and translates each."""
+        return map(self._take, self.parts)
+
+    def _take(self, text: str) -> Translation:
+        catalogue, was_open = self.session.catalogue, self.session.in_transaction
+        outcome = self.session.execute(text)
         words = tokens(text)
         words = words[:-1] if words[-1].word == ";" else words
         found = Translation(text, outcome, catalogue, event=words[0].word)
@@ -71,37 +92,49 @@ class Translator:
             made = reading.table(found.text)
             self._name(made.name, made.constraints, found)
             found.differs += differences.of_keys(made.constraints)
-            found.statements = tables.created(made, self._referenced)
+            found.renamed = differences.of_own_names([made.name, *(column.name for column in made.columns)]) + found.renamed
+            found.statements = tables.created(made, self._whole.referenced)
         elif first == "ALTER":
             table, constraint = reading.added_constraint(found.text)
             self._name(table, [constraint], found)
             found.differs += differences.of_keys([constraint])
-            found.statements = tables.added(table, constraint, self._referenced)
+            found.statements = tables.added(table, constraint, self._whole.referenced)
         elif first in ("CREATE", "DROP"):
             self._trigger(found, words)
         else:
             self._transaction(found, words)
 
     def _name(self, table: str, constraints: list[reading.Constraint], found: Translation) -> None:
-        """Gives the names of the catalogue to new constraints that have none."""
-        if found.outcome.error is None:
-            last = self._session.catalogue.constraints_of(table)[-len(constraints) :] if constraints else []
-            for constraint, made in zip(constraints, last):
-                constraint.name = made.name
+        """Gives the names of the catalogue to new constraints that have none, and another name to an index that would have that of a table."""
+        if found.outcome.error is not None:
+            return
+        last = self.session.catalogue.constraints_of(table)[-len(constraints) :] if constraints else []
+        for constraint, made in zip(constraints, last):
+            constraint.name, constraint.there = made.name, plain_name(made.name)
+            if tables.is_key(constraint) and constraint.there in self._whole.tables:
+                constraint.there = self._free_name(constraint.there)
+                found.renamed.append(f"{made.name} is {constraint.there} there: an index of PostgreSQL can't have the name of a table")
+            self.constraints[differences.cut(constraint.there)], self._there[made.name] = made.name, constraint.there
+
+    def _free_name(self, taken: str) -> str:
+        """A name that no table and no constraint has."""
+        name = taken + "_key"
+        while name in self._whole.tables or name.upper() in self.session.catalogue.constraints or name in self.constraints:
+            name += "_key"
+        return name
 
     def _change(self, found: Translation, words: list[Token], was_open: bool) -> None:
-        found.statements = ([] if was_open else ["BEGIN"]) + [expression(words, DATA)]
-        if not was_open and not self._session.in_transaction:
-            found.statements.append("ROLLBACK")
+        found.statements = ([] if was_open else [sql("BEGIN")]) + [expression(words)]
+        if not was_open and not self.session.in_transaction:
+            found.statements.append(sql("ROLLBACK"))
         table = words[EVENTS[found.event]].word
-        found.differs += differences.of_change(words, found.event, table, self._session.catalogue, self._referenced, self._triggers.values())
+        found.differs += differences.of_change(words, found.event, table, self.session.catalogue, self._whole.referenced, self._triggers.values())
 
     def _trigger(self, found: Translation, words: list[Token]) -> None:
         name = words[2].word
         if words[0].word == "DROP":
             made = self._triggers.get(name)
-            there = identifier(triggers.name_of(name, self._numbers.get(name, 0)))
-            found.statements = [f"DROP TRIGGER {there} ON {identifier(made.table) if made else 'nothing'}", f"DROP FUNCTION {there}()"]
+            found.statements = triggers.dropped(name, self._numbers.get(name, 0), made.table if made else None)
             if found.outcome.error is None:
                 del self._triggers[name]
             return
@@ -112,51 +145,74 @@ class Translator:
         found.statements = triggers.created(trigger, self._numbers.get(name, self._made + 1))
         if found.outcome.error is not None and found.outcome.error.cause == 1:
             found.differs.append("Unknown here: PostgreSQL looks for the names of a body when the trigger runs")
-        found.differs += differences.of_trigger(trigger, self._session.catalogue)
+        found.differs += differences.of_trigger(trigger, self.session.catalogue)
 
     def _transaction(self, found: Translation, words: list[Token]) -> None:
-        parts = [word.word for word in words]
-        if parts[0] == "SET":
+        first, last = words[0].word, words[-1].word
+        if first == "SET":
             self._modes(found, words)
-        elif parts[0] == "START":
-            found.statements = ["BEGIN"]
-        elif parts[0] in ("SAVEPOINT", "RELEASE") or "TO" in parts:
-            found.statements = [f"{' '.join(parts[:-1])} {identifier(parts[-1])}"]
-            if parts[0] == "SAVEPOINT" and parts[-1] in self._savepoints:
-                found.differs.append("PostgreSQL keeps the older savepoint of that name; here it is gone")
-            self._savepoints.add(parts[-1])
+        elif first == "START":
+            found.statements = [sql("BEGIN")]
+        elif first == "SAVEPOINT":
+            found.statements = [sql("SAVEPOINT {}", self._savepoints.made(last))]
+        elif len(words) > 2 and words[-2].word == "SAVEPOINT":
+            head = sql("RELEASE SAVEPOINT") if first == "RELEASE" else sql("ROLLBACK TO SAVEPOINT")
+            found.statements = [sql("{} {}", head, self._savepoints.found(last, found.outcome.error is None)), *self._restored(found.catalogue)]
         else:
-            found.statements = [expression(words, DATA)]
-            self._savepoints -= self._savepoints if parts[0] in ("COMMIT", "ROLLBACK") else set()
+            found.statements = [expression(words)]
+        if not self.session.in_transaction:
+            self._savepoints = Savepoints()
+
+    def _restored(self, before: Catalogue) -> list[Sql]:
+        """Sets the modes that came back. PostgreSQL keeps what SET CONSTRAINTS did in a savepoint of psql."""
+        back = [each for each in self.session.catalogue.constraints.values() if each.deferred != before.constraints[each.name].deferred]
+        sorted_by_mode = [[each.name for each in back if each.deferred is mode] for mode in (True, False)]
+        return [self._set(listed, mode) for listed, mode in zip(sorted_by_mode, ("DEFERRED", "IMMEDIATE")) if listed]
+
+    def _set(self, listed: list[str], mode: str) -> Sql:
+        there = (identifier(self._there.get(each, plain_name(each))) for each in listed)
+        return sql("SET CONSTRAINTS {} {}", joined(", ", there), keywords(mode))
 
     def _modes(self, found: Translation, words: list[Token]) -> None:
         """SET CONSTRAINTS ALL names the constraints that are deferrable here, since PostgreSQL has more of them."""
-        names = [word.word for word in words[2:-1] if word.word != ","]
-        if names == ["ALL"]:
-            names = [each.name for each in self._session.catalogue.constraints.values() if each.deferrable]
-        listed = ", ".join(map(identifier, names))
-        found.statements = [f"SET CONSTRAINTS {listed} {words[-1].word}"] if names else ["SELECT WHERE false"]
-        if self._savepoints:
-            found.differs.append("ROLLBACK TO SAVEPOINT brings the modes of constraints back here; under ON_ERROR_ROLLBACK PostgreSQL keeps them")
+        listed = [word.word for word in words[2:-1] if word.word != ","]
+        if listed == ["ALL"]:
+            listed = [each.name for each in self.session.catalogue.constraints.values() if each.deferrable]
+        found.statements = [self._set(listed, words[-1].word) if listed else sql("SELECT WHERE false")]
+
+
+def refuse_nul(script: str) -> None:
+    """PostgreSQL has no text with U+0000, and psql reads no further in a line that has one."""
+    at = next((each.start + each.word.index("\0") for each in tokens(script) if "\0" in each.word), None)
+    if at is not None:
+        place = place_of(script, at)
+        error = ProgrammingError(f"line {place.line}, column {place.column}: PostgreSQL has no text with the character U+0000")
+        error.line, error.column = place.line, place.column
+        error.statement = sum(end <= at for _, end in statements(script)) + 1
+        raise error
 
 
 def translated(script: str, depth: int = 16, changes: int = 65_536) -> list[Translation]:
-    """The statements of a script for PostgreSQL. ProgrammingError if something of the script is no statement."""
+    """The statements of a script for PostgreSQL. ProgrammingError if something of the script is no statement, or has U+0000 in a text."""
     with Session(depth, changes, explain=True) as session:
-        parts = session.parts(script)
-        translator = Translator(session, referenced_keys(parts))
-        return [translator.take(part) for part in parts]
+        return list(Translator(session, script).steps())
 
 
-HEADER = """-- Made by sqlkeep for psql. A refused statement leaves the transaction as it was.
+# The settings say how psql and PostgreSQL read the rest of the file.
+HEADER = sql("""SET standard_conforming_strings = on;
+SET client_encoding = 'UTF8';
+-- Made by sqlkeep for psql. A refused statement leaves the transaction as it was.
 \\set ON_ERROR_ROLLBACK on
 \\set ON_ERROR_STOP off
-"""
+""")
+
+
+def with_comments(translation: Translation) -> Sql:
+    """The statements of a translation, below comments of what is otherwise in PostgreSQL."""
+    notes = [comment(f"renamed: {reason}") for reason in translation.renamed] + [comment(f"differs: {reason}") for reason in translation.differs]
+    return joined("", [*notes, *(sql("{};\n", statement) for statement in translation.statements)])
 
 
 def psql_script(translations: list[Translation]) -> str:
     """The statements as a script for psql, with a comment above each that PostgreSQL may answer otherwise."""
-    parts = [HEADER]
-    for each in translations:
-        parts.append("".join(f"-- differs: {reason}\n" for reason in each.differs) + "".join(f"{statement};\n" for statement in each.statements))
-    return "\n".join(parts)
+    return str(joined("\n", [HEADER, *map(with_comments, translations)]))

@@ -1,0 +1,1 @@
+"""A PostgreSQL beside the engine: what postgresql.py runs."""
