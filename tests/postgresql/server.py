@@ -47,7 +47,7 @@ class Server:
     def __exit__(self, *_):
         self._run("pg_ctl", "-D", os.path.join(self.folder, "data"), "-m", "immediate", "stop")
 
-    def psql(self, script, database="postgres", **settings):
-        """What psql answers to a file, as superuser, with each of its settings given by the environment. It reads no .psqlrc."""
-        command = [os.path.join(self._programs, "psql"), "-X", "-h", self.folder, "-U", "tester", "-d", database, "-f", str(script)]
-        return subprocess.run(command, cwd=self.folder, stdout=subprocess.PIPE, stderr=subprocess.STDOUT, env={**os.environ, **settings}, check=False).stdout
+    def psql(self, script, folder, settings):
+        """Runs a script through psql, as superuser in this folder, with settings as PGOPTIONS has them. It reads no .psqlrc."""
+        command = [os.path.join(self._programs, "psql"), "-q", "-X", "-h", self.folder, "-U", "tester", "-d", "postgres", "-f", str(script)]
+        return subprocess.run(command, cwd=folder, stdout=subprocess.PIPE, stderr=subprocess.STDOUT, env={**os.environ, "PGOPTIONS": settings}, check=False).stdout

@@ -6,6 +6,7 @@ plain string is refused everywhere else. A text, a name or a body means the same
 from __future__ import annotations
 
 import re
+from itertools import count
 from typing import Iterable
 
 from ..text import KEYWORDS, Token
@@ -122,9 +123,7 @@ def of_token(token: Token) -> Sql:
 
 def body(text: Sql) -> Sql:
     """The text of a function or of a DO, between dollar quotes whose tag it doesn't have."""
-    number, tag = 1, "body"
-    while tag in text_of(text):
-        number, tag = number + 1, f"body{number}"
+    tag = next(tag for tag in (f"body{at or ''}" for at in count()) if tag not in text_of(text))
     return Sql(f"${tag}$\n{text}\n${tag}$")
 
 
