@@ -1,59 +1,155 @@
-"""What PostgreSQL may answer otherwise, told before a statement runs there."""
+"""What PostgreSQL answers otherwise, told at the statement where it does.
+
+A note stands at a statement only if what the statement did here can come out otherwise there.
+"""
 from __future__ import annotations
 
-from typing import Iterable
+import re
+from typing import Iterable, Iterator
 
-from ..catalogue import Catalogue
-from ..catalogue import Constraint as Made
-from ..session import Outcome
-from ..text import Token
+from ..account import Violation
+from ..catalogue import Constraint
+from ..errors import DatabaseError
+from ..text import tokens
+from .levels import EVENTS, Statement, levels, values_at
+from .orders import of_level
 from .quoting import plain_name
-from .reading import Constraint, Trigger
-from .tables import KeyColumns
+from .violated import violated
 
-__all__ = ["by_cause", "cut", "of_change", "of_keys", "of_names", "of_own_names", "of_trigger"]
+__all__ = ["cut", "of_names", "of_own_names", "of_statement"]
 
 # Names are cut behind so many bytes there.
 LONGEST = 63
-
-BY_CAUSE = {
-    2: "Duplicate here: PostgreSQL keeps the names of constraints and triggers table by table",
+# No entry of an index is longer.
+LONGEST_KEY = 2_704
+HEAD_OF_KEY = 16
+ALWAYS = {
     3: "SchemaFault here: PostgreSQL allows more definitions",
     4: "InTransaction here: PostgreSQL makes tables and triggers in a transaction too",
-    5: "NoTransaction here: PostgreSQL only warns",
     6: "ActiveTransaction here: PostgreSQL only warns",
-    8: "NotDeferrable here: PostgreSQL has a key that is tested when a statement ends as a deferrable one",
-    9: "WrongShape here: PostgreSQL converts between numbers and texts, and fills columns that have no value",
-    10: "NumberOutOfRange here: PostgreSQL need not look at both sides of AND and OR, nor into every row of an EXISTS",
-    11: "TextTooLong here: PostgreSQL cuts blanks at the end",
     14: "ActionConflict here: in PostgreSQL the action that comes last wins",
     16: "DepthLimit here: PostgreSQL stops when its stack is full",
     17: "TooManyChanges here: PostgreSQL has no budget of changes",
     18: "TransactionTooLarge here: PostgreSQL has no such limit",
     21: "Limit here: PostgreSQL has other limits",
 }
-FIRST_THERE = ("NOT NULL", "CHECK", "UNIQUE", "PRIMARY KEY", "FOREIGN KEY")
+SEVERAL = "several constraints are violated; here the first that was made is named, and PostgreSQL names the one that it tests first"
+# A text that PostgreSQL reads as a number.
+NUMBER = re.compile(r"'\s*[+-]?[0-9][0-9_xobA-Fa-f]*\s*'")
+REFUSED_ROW, COMMIT_REFUSED = (12, 13), 19
 
 
-def by_cause(outcome: Outcome, catalogue: Catalogue) -> list[str]:
+def of_statement(statement: Statement) -> list[str]:
+    """Why PostgreSQL may answer a statement otherwise, each reason once."""
+    found = [*by_cause(statement), *of_names(sorted({word.word for word in statement.words if word.kind == "word"}))]
+    if statement.words[0].word in EVENTS:
+        if statement.outcome.account:
+            for level in levels(statement.words, statement.outcome.account.events, statement.triggers, statement.outcome.error is not None):
+                found += of_level(statement, level)
+        found += of_long_keys(statement)
+    return list(dict.fromkeys(found))
+
+
+def by_cause(statement: Statement) -> Iterator[str]:
     """What a refusal here says of PostgreSQL."""
-    error = outcome.error
+    error = statement.outcome.error
     if error is None or error.cause is None:
-        return []
-    if len({each.constraint for each in error.violations}) > 1:
-        return ["several constraints are violated; here the first that was made is named, and PostgreSQL names the one that it tests first"]
-    if error.cause in (13, 19) and error.constraint in catalogue.constraints:
-        constraint = catalogue.constraints[error.constraint]
-        others = [each for each in catalogue.constraints_of(constraint.table) if each.name != constraint.name]
-        if others:
-            return [f"{error.constraint} is the first violated constraint here; PostgreSQL tests NOT NULL and CHECK first, then keys, then foreign keys"]
-    return [BY_CAUSE[error.cause]] if error.cause in BY_CAUSE else []
+        return
+    if error.cause in ALWAYS:
+        yield ALWAYS[error.cause]
+    told = {1: of_unknown, 2: of_duplicate, 5: of_no_transaction, 8: of_not_deferrable, 9: of_shape, 10: of_range, 11: of_length, 12: of_violations, 13: of_violations, 19: of_violations}
+    if error.cause in told:
+        yield from told[error.cause](statement, error)
 
 
-def of_keys(constraints: Iterable[Constraint]) -> list[str]:
-    """What a new key does otherwise there."""
-    late = any(each.kind == "PRIMARY KEY" and each.is_deferrable for each in constraints)
-    return ["PostgreSQL tests the nulls of a PRIMARY KEY at once, also if the key is deferred"] if late else []
+def of_unknown(statement: Statement, error: DatabaseError) -> Iterator[str]:
+    fault = error.account.name if error.account is not None else None
+    if statement.words[1].word == "TRIGGER" and statement.words[0].word == "CREATE" and not (fault is not None and fault.kind == "trigger"):
+        yield "Unknown here: PostgreSQL looks for the names of a body when the trigger runs"
+
+
+def of_duplicate(statement: Statement, error: DatabaseError) -> Iterator[str]:
+    fault = error.account.name if error.account is not None else None
+    if fault is None or fault.kind == "constraint":
+        yield "Duplicate here: PostgreSQL keeps the names of constraints table by table"
+
+
+def of_no_transaction(statement: Statement, _: DatabaseError) -> Iterator[str]:
+    if statement.words[0].word == "SET":
+        yield "NoTransaction here: PostgreSQL only warns"
+
+
+def of_not_deferrable(statement: Statement, _: DatabaseError) -> Iterator[str]:
+    """PostgreSQL refuses DEFERRED of what isn't deferrable there, and each mode of a NOT NULL, which has no name there."""
+    named = [statement.catalogue.constraints[word.word] for word in statement.words[2:-1] if word.word in statement.catalogue.constraints]
+    late = [each for each in named if not each.deferrable]
+    if statement.words[-1].word == "IMMEDIATE":
+        yield "NotDeferrable here: PostgreSQL lets IMMEDIATE be said of any constraint"
+    elif all(is_late_there(statement, each) for each in late):
+        yield "NotDeferrable here: PostgreSQL has a key that is tested when a statement ends as a deferrable one"
+
+
+def is_late_there(statement: Statement, constraint: Constraint) -> bool:
+    """Whether a constraint that isn't deferrable here is deferrable there."""
+    return constraint.kind in ("UNIQUE", "PRIMARY KEY") and (constraint.table, frozenset(constraint.columns)) not in statement.referenced
+
+
+def reason_of(error: DatabaseError) -> str:
+    reason = error.account.reason if error.account is not None else None
+    return reason.text if reason is not None else ""
+
+
+def of_shape(_: Statement, error: DatabaseError) -> Iterator[str]:
+    """PostgreSQL makes a text of an integer and an integer of a text that looks like one, and fills columns."""
+    reason = reason_of(error)
+    counts = re.search(r" (\d+) values? for (\d+) columns?", reason)
+    if (counts is not None and int(counts[1]) < int(counts[2])) or (counts is None and (NUMBER.search(reason) or "is an integer" in reason or not reason)):
+        yield "WrongShape here: PostgreSQL converts between numbers and texts, and fills columns that have no value"
+
+
+def of_range(_: Statement, error: DatabaseError) -> Iterator[str]:
+    """PostgreSQL evaluates each value, but not each part of a condition."""
+    if re.match(r"\w+ of \w+", reason_of(error)) is None or re.match(r"WHE(RE|N) ", reason_of(error)):
+        yield "NumberOutOfRange here: PostgreSQL need not look at both sides of AND and OR, nor into every row of an EXISTS"
+
+
+def of_length(statement: Statement, error: DatabaseError) -> Iterator[str]:
+    words = [word.word for word in statement.words]
+    if error.trigger is not None or "SELECT" in words or any(word.endswith(" '") for word in words) or any(word.kind == "word" and at > 3 for at, word in enumerate(statement.words)):
+        yield "TextTooLong here: PostgreSQL cuts blanks at the end"
+
+
+def of_violations(statement: Statement, error: DatabaseError) -> Iterator[str]:
+    """PostgreSQL names another constraint if several are violated, and none if a CHECK is out of range."""
+    if any(is_out_of_range(each) for each in error.violations):
+        yield "a CHECK that is out of range is violated here; in PostgreSQL it is an error"
+    names = {each.constraint for each in error.violations}
+    if error.cause in REFUSED_ROW and statement.words[0].word in EVENTS and statement.outcome.account:
+        asked = violated(statement.session, statement.catalogue, statement.outcome.account.changes())
+        names |= names if asked is None else {each for each in asked if not statement.catalogue.constraints[each].deferred}
+        if asked is None or (error.cause == 12 and len(names) > 1):
+            yield SEVERAL
+            return
+    if len(names) > 1:
+        yield SEVERAL
+
+
+def is_out_of_range(violation: Violation) -> bool:
+    """Whether the condition of a CHECK may have left 64 bits: it reckons, with a number of ten digits or more."""
+    words = tokens(violation.with_values or "")
+    return any(word.word in ("+", "-", "*") for word in words) and any(word.kind == "number" and len(word.word) > 9 for word in words)
+
+
+def of_long_keys(statement: Statement) -> Iterator[str]:
+    changes = statement.outcome.account.changes()
+    for key in statement.catalogue.constraints.values():
+        if key.kind not in ("UNIQUE", "PRIMARY KEY") or not any(change.table == key.table for change in changes):
+            continue
+        places = statement.places(key.table, key.columns)
+        rows = [values_at(change.after, places) for change in changes if change.table == key.table and change.after is not None]
+        if any(sum(len(value.encode()) + 4 if isinstance(value, str) else 8 for value in row) + HEAD_OF_KEY > LONGEST_KEY for row in rows):
+            yield f"PostgreSQL refuses a key of more than {LONGEST_KEY:,} bytes"
+            return
 
 
 def of_names(names: Iterable[str]) -> list[str]:
@@ -69,56 +165,3 @@ def cut(name: str) -> str:
 def of_own_names(names: Iterable[str]) -> list[str]:
     """Names that are PostgreSQL's own, and are written in capitals."""
     return [f"{name} is in capitals there, since PostgreSQL has a {name.lower()} of its own" for name in names if plain_name(name) == name and name != name.lower()]
-
-
-def of_trigger(trigger: Trigger, catalogue: Catalogue) -> list[str]:
-    """What a trigger does otherwise there."""
-    words = [token.word for act in [trigger.when, *trigger.acts] for token in act]
-    found = []
-    if any(table in catalogue.tables for table in trigger.tables):
-        found.append("a transition table has the name of a table, which PostgreSQL lets no statement of the body change")
-    if trigger.time == "BEFORE" and trigger.for_each_row and "EXISTS" in words:
-        found.append("a BEFORE row trigger sees the rows that the statement has changed so far; here it sees the tables as before")
-    if trigger.tables and trigger.columns:
-        found.append("PostgreSQL allows no column list beside transition tables: the trigger runs for each UPDATE")
-    actions = [each for each in catalogue.constraints.values() if each.kind == "FOREIGN KEY" and each.table == trigger.table and acts(each.on_delete, each.on_update)]
-    if trigger.time == "AFTER" and actions and not trigger.for_each_row:
-        found.append("PostgreSQL runs a statement trigger once for each row whose key a foreign key follows; here once for all")
-    return found
-
-
-def acts(*actions: str | None) -> bool:
-    return any(each in ("CASCADE", "SET NULL", "SET DEFAULT") for each in actions)
-
-
-def of_change(words: list[Token], event: str, table: str, catalogue: Catalogue, referenced: Iterable[KeyColumns], triggers: Iterable[Trigger]) -> list[str]:
-    """What a data statement does otherwise there."""
-    found = []
-    set_columns: set[str] = {word.word for word, behind in zip(words, words[1:]) if behind.word == "="} if event == "UPDATE" else set()
-    if event == "UPDATE" and any(name == table and columns & set_columns for name, columns in referenced):
-        found.append("PostgreSQL tests a key that foreign keys refer to row by row; here when the statement ends")
-    following = followers(table, catalogue) if event != "INSERT" else []
-    by_row = [(each.time, each.event) for each in triggers if each.table == table and each.for_each_row]
-    if len(set(by_row)) != len(by_row):
-        found.append("several row triggers run at one time: here one after another over all rows, and in PostgreSQL all of them row by row")
-    if event != "INSERT" and any(each.referenced == table and "RESTRICT" in (each.on_delete, each.on_update) for each in catalogue.constraints.values()):
-        found.append("RESTRICT looks at the rows as before the statement here; PostgreSQL looks when the rows have changed")
-    if following and any(trigger.time == "AFTER" for trigger in triggers):
-        found.append("PostgreSQL follows foreign keys row by row, and runs the triggers of what follows at once; here AFTER triggers run when all has followed")
-    columns = [(each.table, column) for each in following for column in each.columns]
-    if len(columns) != len(set(columns)) or len({each.table for each in following}) != len(following):
-        found.append("several foreign keys act on one table: PostgreSQL takes them one after another; here in waves, in which a deletion wins")
-    return found
-
-
-def followers(table: str, catalogue: Catalogue) -> list[Made]:
-    """The foreign keys that act if rows of the table go or change, and those that act on what follows."""
-    found: list[Made] = []
-    tables = [table]
-    for name in tables:
-        for each in catalogue.constraints.values():
-            if each.kind == "FOREIGN KEY" and each.referenced == name and acts(each.on_delete, each.on_update) and each not in found:
-                found.append(each)
-                if each.table not in tables:
-                    tables.append(each.table)
-    return found

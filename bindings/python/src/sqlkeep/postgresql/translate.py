@@ -14,13 +14,12 @@ from ..session import Outcome, Session
 from ..text import Token, place_of, statements, tokens
 from . import differences, reading, tables, triggers
 from .expressions import expression
+from .levels import EVENTS, Statement
 from .quoting import Sql, comment, identifier, joined, keywords, plain_name, sql
 from .savepoints import Savepoints
 from .tables import KeyColumns
 
 __all__ = ["Translation", "Translator", "psql_script", "translated"]
-
-EVENTS = {"INSERT": 2, "DELETE": 2, "UPDATE": 1}
 
 
 @dataclass
@@ -80,8 +79,7 @@ class Translator:
         words = words[:-1] if words[-1].word == ";" else words
         found = Translation(text, outcome, catalogue, event=words[0].word)
         self._write(found, words, was_open)
-        found.differs += [each for each in differences.by_cause(outcome, catalogue) if each not in found.differs]
-        found.differs += differences.of_names(sorted({word.word for word in words if word.kind == "word"}))
+        found.differs = differences.of_statement(Statement(words, outcome, catalogue, self.session, self._triggers, self._whole.referenced))
         return found
 
     def _write(self, found: Translation, words: list[Token], was_open: bool) -> None:
@@ -91,13 +89,11 @@ class Translator:
         elif first == "CREATE" and words[1].word == "TABLE":
             made = reading.table(found.text)
             self._name(made.name, made.constraints, found)
-            found.differs += differences.of_keys(made.constraints)
             found.renamed = differences.of_own_names([made.name, *(column.name for column in made.columns)]) + found.renamed
             found.statements = tables.created(made, self._whole.referenced)
         elif first == "ALTER":
             table, constraint = reading.added_constraint(found.text)
             self._name(table, [constraint], found)
-            found.differs += differences.of_keys([constraint])
             found.statements = tables.added(table, constraint, self._whole.referenced)
         elif first in ("CREATE", "DROP"):
             self._trigger(found, words)
@@ -127,8 +123,6 @@ class Translator:
         found.statements = ([] if was_open else [sql("BEGIN")]) + [expression(words)]
         if not was_open and not self.session.in_transaction:
             found.statements.append(sql("ROLLBACK"))
-        table = words[EVENTS[found.event]].word
-        found.differs += differences.of_change(words, found.event, table, self.session.catalogue, self._whole.referenced, self._triggers.values())
 
     def _trigger(self, found: Translation, words: list[Token]) -> None:
         name = words[2].word
@@ -143,9 +137,6 @@ class Translator:
             self._made += 1
             self._numbers[name], self._triggers[name] = self._made, trigger
         found.statements = triggers.created(trigger, self._numbers.get(name, self._made + 1))
-        if found.outcome.error is not None and found.outcome.error.cause == 1:
-            found.differs.append("Unknown here: PostgreSQL looks for the names of a body when the trigger runs")
-        found.differs += differences.of_trigger(trigger, self.session.catalogue)
 
     def _transaction(self, found: Translation, words: list[Token]) -> None:
         first, last = words[0].word, words[-1].word

@@ -1,0 +1,75 @@
+"""Which constraints a state of the tables violates, as the engine says of a database that is made for it."""
+from __future__ import annotations
+
+from collections import Counter
+from typing import Iterable
+
+from ..account import Change
+from ..catalogue import Catalogue, Constraint, Table
+from ..session import Session
+from ..values import Value
+
+__all__ = ["violated"]
+
+Rows = Counter[tuple[Value, ...]]
+# Beyond so many rows nothing is asked.
+MOST_ROWS = 4_000
+AT_ONCE = 200
+ADD_REFUSED = 20
+
+
+def table_text(table: Table) -> str:
+    parts = [f"{each.name} {each.type}" + (f"({each.length})" if each.length is not None else "") for each in table.columns]
+    return f"CREATE TABLE {table.name} ({', '.join(parts)})"
+
+
+def constraint_text(constraint: Constraint) -> str:
+    listed = f"({', '.join(constraint.columns)})"
+    if constraint.kind == "CHECK":
+        return f"CHECK ({constraint.condition})"
+    if constraint.kind == "NOT NULL":
+        return f"CHECK ({constraint.columns[0]} IS NOT NULL)"
+    if constraint.kind == "FOREIGN KEY":
+        return f"FOREIGN KEY {listed} REFERENCES {constraint.referenced} ({', '.join(constraint.referenced_columns)})" + (" MATCH FULL" if constraint.match_full else "")
+    return f"{constraint.kind}{' NULLS NOT DISTINCT' if constraint.nulls_not_distinct else ''} {listed}"
+
+
+def changed(session: Session, catalogue: Catalogue, changes: Iterable[Change]) -> dict[str, Rows]:
+    """The rows of each table once these changes are made."""
+    rows: dict[str, Rows] = {name: Counter(session.execute(f"SELECT * FROM {name}").rows or []) for name in catalogue.tables}
+    for change in changes:
+        if change.before is not None:
+            rows[change.table][change.before] -= 1
+        if change.after is not None:
+            rows[change.table][change.after] += 1
+    return rows
+
+
+def fill(session: Session, table: str, rows: Rows) -> None:
+    found = list(rows.elements())
+    for at in range(0, len(found), AT_ONCE):
+        some = found[at : at + AT_ONCE]
+        places = ", ".join(f"({', '.join('?' * len(row))})" for row in some)
+        session.execute(f"INSERT INTO {table} VALUES {places}", [value for row in some for value in row]).check()
+    session.execute("COMMIT")
+
+
+def violated(session: Session, catalogue: Catalogue, changes: Iterable[Change]) -> set[str] | None:
+    """The constraints that the rows would violate once these changes are made; None if there are too many rows to ask."""
+    session.explain = False
+    rows = changed(session, catalogue, changes)
+    session.explain = True
+    if sum(sum(each.values()) for each in rows.values()) > MOST_ROWS:
+        return None
+    with Session() as other:
+        for table in catalogue.tables.values():
+            other.execute(table_text(table))
+            fill(other, table.name, rows[table.name])
+        in_order = sorted(catalogue.constraints.values(), key=lambda each: each.kind == "FOREIGN KEY")
+        return {each.name for each in in_order if is_refused(other, each)}
+
+
+def is_refused(session: Session, constraint: Constraint) -> bool:
+    """Whether the rows violate a constraint, which is added otherwise."""
+    error = session.execute(f"ALTER TABLE {constraint.table} ADD {constraint_text(constraint)}").error
+    return error is not None and error.cause == ADD_REFUSED
