@@ -7,7 +7,6 @@ from __future__ import annotations
 from dataclasses import dataclass, field
 from typing import Any, Callable
 
-from ..catalogue import Catalogue
 from ..session import Session
 from ..values import Value, write_values
 from .quoting import Sql, identifier, name, sql
@@ -24,6 +23,8 @@ SETTINGS = ("SET standard_conforming_strings = on", "SET client_min_messages TO 
 CHANGING = ("INSERT", "UPDATE", "DELETE", "COMMIT", "ROLLBACK")
 ENDED = (*CHANGING[:4], "SELECT")
 NOT_NULL, RAISED = "23502", "45000"
+# The causes of refusals that PostgreSQL names a constraint or a trigger for.
+OF_ROWS, SIGNAL = (12, 13, 14, 19, 20), 15
 
 
 class SchemaInUse(Exception):
@@ -92,17 +93,17 @@ def here_of(translation: Translation) -> Answer:
     error = outcome.error
     if error is None:
         return Answer(outcome.count, outcome.rows)
-    return Answer(refused=str(error), by=error.constraint or (error.trigger if error.cause == 15 else None))
+    return Answer(refused=str(error), by=error.trigger if error.cause == SIGNAL else error.constraint if error.cause in OF_ROWS else None)
 
 
-def constraint_named(error: Any, translator: Translator, catalogue: Catalogue) -> str | None:
+def constraint_named(error: Any, translator: Translator) -> str | None:
     """What refused a statement there: a constraint, or the trigger that raised."""
     diagnostics = error.diag
     if diagnostics.sqlstate == RAISED:
         return (diagnostics.message_detail or "").removeprefix("trigger ") or None
     if diagnostics.sqlstate == NOT_NULL:
-        table, column = (diagnostics.table_name or "").upper(), (diagnostics.column_name or "").upper()
-        return next((each.name for each in catalogue.constraints_of(table) if each.kind in ("NOT NULL", "PRIMARY KEY") and column in each.columns), None)
+        column = (diagnostics.table_name or "").upper(), (diagnostics.column_name or "").upper()
+        return next((name for each, name in translator.filled if each == column), None)
     return translator.constraints.get(diagnostics.constraint_name or "")
 
 
@@ -176,7 +177,7 @@ def there_of(server: Server, translation: Translation, translator: Translator, e
             found = server.run(statement)
         except errors as error:
             server.undo()
-            answer = Answer(refused=str(error).split("\n", 1)[0], by=constraint_named(error, translator, translation.catalogue))
+            answer = Answer(refused=str(error).split("\n", 1)[0], by=constraint_named(error, translator))
             if str(translation.statements[-1]) == "ROLLBACK" and server.is_open():
                 server.run(translation.statements[-1])
             break

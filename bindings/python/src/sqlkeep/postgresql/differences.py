@@ -5,9 +5,9 @@ A note stands at a statement only if what the statement did here can come out ot
 from __future__ import annotations
 
 import re
-from typing import Iterable, Iterator
+from typing import Callable, Iterable, Iterator
 
-from ..account import Violation
+from ..account import Change, Skipped, Violation
 from ..catalogue import Constraint
 from ..errors import DatabaseError
 from ..text import tokens
@@ -25,7 +25,6 @@ LONGEST_KEY = 2_704
 HEAD_OF_KEY = 16
 ALWAYS = {
     3: "SchemaFault here: PostgreSQL allows more definitions",
-    4: "InTransaction here: PostgreSQL makes tables and triggers in a transaction too",
     6: "ActiveTransaction here: PostgreSQL only warns",
     14: "ActionConflict here: in PostgreSQL the action that comes last wins",
     16: "DepthLimit here: PostgreSQL stops when its stack is full",
@@ -36,7 +35,8 @@ ALWAYS = {
 SEVERAL = "several constraints are violated; here the first that was made is named, and PostgreSQL names the one that it tests first"
 # A text that PostgreSQL reads as a number.
 NUMBER = re.compile(r"'\s*[+-]?[0-9][0-9_xobA-Fa-f]*\s*'")
-REFUSED_ROW, COMMIT_REFUSED = (12, 13), 19
+REFUSED_ROW, VIOLATION = (12, 13), 13
+ARITHMETIC = ("+", "-", "*")
 
 
 def of_statement(statement: Statement) -> list[str]:
@@ -47,6 +47,8 @@ def of_statement(statement: Statement) -> list[str]:
             for level in levels(statement.words, statement.outcome.account.events, statement.triggers, statement.outcome.error is not None):
                 found += of_level(statement, level)
         found += of_long_keys(statement)
+    if statement.cause is None and statement.words[0].word in (*EVENTS, "SELECT"):
+        found += of_constants(statement)
     return list(dict.fromkeys(found))
 
 
@@ -57,7 +59,7 @@ def by_cause(statement: Statement) -> Iterator[str]:
         return
     if error.cause in ALWAYS:
         yield ALWAYS[error.cause]
-    told = {1: of_unknown, 2: of_duplicate, 5: of_no_transaction, 8: of_not_deferrable, 9: of_shape, 10: of_range, 11: of_length, 12: of_violations, 13: of_violations, 19: of_violations}
+    told: dict[int, Callable[[Statement, DatabaseError], Iterator[str]]] = {1: of_unknown, 2: of_duplicate, 4: of_open, 5: of_no_transaction, 8: of_not_deferrable, 9: of_shape, 10: of_range, 11: of_length, 12: of_violations, 13: of_violations, 19: of_violations}
     if error.cause in told:
         yield from told[error.cause](statement, error)
 
@@ -107,16 +109,25 @@ def of_shape(_: Statement, error: DatabaseError) -> Iterator[str]:
         yield "WrongShape here: PostgreSQL converts between numbers and texts, and fills columns that have no value"
 
 
-def of_range(_: Statement, error: DatabaseError) -> Iterator[str]:
+def of_range(statement: Statement, error: DatabaseError) -> Iterator[str]:
     """PostgreSQL evaluates each value, but not each part of a condition."""
-    if re.match(r"\w+ of \w+", reason_of(error)) is None or re.match(r"WHE(RE|N) ", reason_of(error)):
+    is_part = error.trigger is not None or any(word.word in ("AND", "OR", "EXISTS") for word in statement.words)
+    if is_part and re.match(r"WHE(RE|N) ", reason_of(error)):
         yield "NumberOutOfRange here: PostgreSQL need not look at both sides of AND and OR, nor into every row of an EXISTS"
 
 
 def of_length(statement: Statement, error: DatabaseError) -> Iterator[str]:
     words = [word.word for word in statement.words]
-    if error.trigger is not None or "SELECT" in words or any(word.endswith(" '") for word in words) or any(word.kind == "word" and at > 3 for at, word in enumerate(statement.words)):
+    if error.trigger is not None or "SELECT" in words or words[0] == "UPDATE" or any(word.endswith(" '") for word in words):
         yield "TextTooLong here: PostgreSQL cuts blanks at the end"
+
+
+def of_open(statement: Statement, _: DatabaseError) -> Iterator[str]:
+    """What PostgreSQL makes in a transaction: what isn't there yet. It drops and alters what is there."""
+    words = statement.words
+    is_there = words[2].word in statement.catalogue.triggers if words[1].word == "TRIGGER" else words[2].word in statement.catalogue.tables
+    if is_there == (words[0].word != "CREATE"):
+        yield "InTransaction here: PostgreSQL makes tables and triggers in a transaction too"
 
 
 def of_violations(statement: Statement, error: DatabaseError) -> Iterator[str]:
@@ -124,20 +135,58 @@ def of_violations(statement: Statement, error: DatabaseError) -> Iterator[str]:
     if any(is_out_of_range(each) for each in error.violations):
         yield "a CHECK that is out of range is violated here; in PostgreSQL it is an error"
     names = {each.constraint for each in error.violations}
-    if error.cause in REFUSED_ROW and statement.words[0].word in EVENTS and statement.outcome.account:
+    if error.cause in REFUSED_ROW and statement.words[0].word in EVENTS:
         asked = violated(statement.session, statement.catalogue, statement.outcome.account.changes())
         names |= names if asked is None else {each for each in asked if not statement.catalogue.constraints[each].deferred}
-        if asked is None or (error.cause == 12 and len(names) > 1):
+        if asked is None:
             yield SEVERAL
             return
-    if len(names) > 1:
+    if len(names) > 1 and first_there(statement, names) != error.constraint:
         yield SEVERAL
+
+
+def first_there(statement: Statement, names: set[str]) -> str | None:
+    """The constraint that PostgreSQL names if these are violated; None if that can't be told."""
+    events = statement.outcome.account.events
+    if statement.words[0].word not in EVENTS or statement.cause != VIOLATION or not all(isinstance(each, (Change, Skipped, Violation)) for each in events):
+        return None
+    stored = {each for each in names if statement.is_at_once(each, statement.outcome.account.changes())}
+    candidates = sorted(stored or names, key=lambda each: order_there(statement, each))
+    is_one_row = sum(isinstance(each, Change) for each in events) == 1
+    return candidates[0] if is_one_row or len(candidates) == 1 else None
+
+
+def order_there(statement: Statement, name: str) -> tuple[int, str]:
+    """Where PostgreSQL tests a constraint of a row: nulls, CHECK by name, keys that can't wait; then by the names of its triggers a
+    PRIMARY KEY, foreign keys whose key is gone, other foreign keys, UNIQUE and what can wait. Of one kind a PRIMARY KEY comes first, and
+    then the one that was made first."""
+    made, changes = statement.catalogue.constraints[name], statement.outcome.account.changes()
+    place = f"{list(statement.catalogue.constraints).index(name):09}"
+    if made.kind in ("CHECK", "NOT NULL"):
+        return (7 if made.deferrable else 0 if made.kind == "NOT NULL" else 1), place if made.kind == "NOT NULL" else plain_name(name)
+    if made.kind == "FOREIGN KEY":
+        return (4 if statement.lost(made, changes) else 5), place
+    if statement.is_at_once(name, changes):
+        return (2, "" if made.kind == "PRIMARY KEY" else place) if statement.is_at_once(name) else (0, place)
+    return (3 if made.kind == "PRIMARY KEY" else 6), place
 
 
 def is_out_of_range(violation: Violation) -> bool:
     """Whether the condition of a CHECK may have left 64 bits: it reckons, with a number of ten digits or more."""
-    words = tokens(violation.with_values or "")
-    return any(word.word in ("+", "-", "*") for word in words) and any(word.kind == "number" and len(word.word) > 9 for word in words)
+    return any(word.word in ARITHMETIC for word in tokens(violation.condition or "")) and re.search(r"\d{10}", violation.with_values or "") is not None
+
+
+def of_constants(statement: Statement) -> Iterator[str]:
+    """PostgreSQL reckons with numbers when it plans a query, even if no row is looked at."""
+    words = statement.words
+    triples = [(before, word.word, behind) for before, word, behind in zip(words, words[1:], words[2:]) if before.kind == behind.kind == "number" and word.word in ARITHMETIC]
+    if any(word.word in ("WHERE", "SELECT") for word in words) and any(is_beyond(int(before.word), sign, int(behind.word)) for before, sign, behind in triples):
+        yield "PostgreSQL reckons with numbers even if no row is looked at"
+
+
+def is_beyond(first: int, sign: str, second: int) -> bool:
+    """Whether an operation of two numbers, the first perhaps with a sign, leaves 64 bits."""
+    return {"+": first + second, "-": first + second - 1, "*": first * second}[sign] >= 2**63
 
 
 def of_long_keys(statement: Statement) -> Iterator[str]:

@@ -4,7 +4,7 @@ from __future__ import annotations
 from dataclasses import dataclass
 from typing import Iterable, Iterator, Mapping, Sequence, Union
 
-from ..account import Action, Change, Event, Skipped
+from ..account import Action, Change, Event, Skipped, Violation
 from ..account import Trigger as Ran
 from ..catalogue import Catalogue, Constraint
 from ..session import Outcome, Session
@@ -36,6 +36,20 @@ class Statement:
     def cause(self) -> int | None:
         """The number of the cause that refused it."""
         return self.outcome.error.cause if self.outcome.error is not None else None
+
+    @property
+    def violation(self) -> Violation | None:
+        """The first violation of which the refusal speaks."""
+        error = self.outcome.error
+        return error.violations[0] if error is not None and error.violations else None
+
+    def is_at_once(self, name: str, changes: Iterable[Change] = ()) -> bool:
+        """Whether PostgreSQL tests a constraint as soon as a row is stored, also the nulls of a PRIMARY KEY that can wait."""
+        constraint = self.catalogue.constraints[name]
+        if constraint.kind == "PRIMARY KEY" and any(each.table == constraint.table and None in values_at(each.after, self.places(each.table, constraint.columns)) for each in changes if each.after is not None):
+            return True
+        is_key = constraint.kind in ("UNIQUE", "PRIMARY KEY")
+        return not constraint.deferrable and constraint.kind != "FOREIGN KEY" and (not is_key or (constraint.table, frozenset(constraint.columns)) in self.referenced)
 
     def keys(self, table: str) -> list[Constraint]:
         """The foreign keys that refer to a table."""

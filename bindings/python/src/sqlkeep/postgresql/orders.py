@@ -3,9 +3,8 @@ from __future__ import annotations
 
 from typing import Iterator
 
-from ..account import Change, Skipped, Violation
+from ..account import Action, Change, Skipped
 from ..account import Trigger as Ran
-from ..catalogue import Constraint
 from .levels import Asked, Level, Statement, values_at
 from .reading import Trigger
 from .violated import violated
@@ -13,12 +12,12 @@ from .violated import violated
 __all__ = ["of_level"]
 
 ACTING = ("CASCADE", "SET NULL", "SET DEFAULT")
-VIOLATION, SIGNAL = 13, 15
+RESTRICT, VIOLATION, SIGNAL = 12, 13, 15
 
 
 def of_level(statement: Statement, level: Level) -> Iterator[str]:
     """What comes otherwise in PostgreSQL."""
-    for told in (keys_row_by_row, row_triggers, statement_triggers, changed_rows_seen, followed, restricted, one_row_twice, no_action, default_lost, null_in_late_key, tested_after_trigger, signal_first, column_lists, hidden_table):
+    for told in (keys_row_by_row, row_triggers, statement_triggers, changed_rows_seen, followed, followed_in_vain, followed_late, restricted, one_row_twice, no_action, default_lost, null_in_late_key, tested_after_trigger, signal_first, column_lists, hidden_table):
         yield from told(statement, level)
 
 
@@ -79,42 +78,88 @@ def changed_rows_seen(statement: Statement, level: Level) -> Iterator[str]:
             return
 
 
+def tables_of(trigger: Trigger) -> set[str]:
+    """The tables that the body of a trigger names."""
+    words = [token.word for act in [trigger.when, *trigger.acts] for token in act]
+    return {behind for word, behind in zip(words, words[1:]) if word in ("FROM", "INTO", "UPDATE")}
+
+
 def followed(statement: Statement, level: Level) -> Iterator[str]:
-    """Foreign keys that act, beside triggers."""
+    """Foreign keys that act, beside triggers: one row with one trigger that looks at nothing else can't come out otherwise."""
     acted = [trigger for trigger, asked in defined(statement, level, "AFTER") if is_acted(asked)]
-    if level.actions and acted:
+    changed = {each.table for each in level.changes}
+    is_alone = len(acted) == 1 and len(level.rows(level.table, level.event)) < 2 and not tables_of(acted[0]) & changed
+    if level.actions and acted and not is_alone:
         yield "PostgreSQL follows foreign keys row by row, and runs the triggers of what follows at once; here AFTER triggers run when all has followed"
-        return
+
+
+def followed_in_vain(statement: Statement, level: Level) -> Iterator[str]:
+    """A statement trigger of a table in which a foreign key finds no row."""
     for key in statement.catalogue.constraints.values():
         for event, action in (("DELETE", key.on_delete), ("UPDATE", key.on_update)):
             lost = [each for each in statement.lost(key, level.changes) if each.kind == event.lower()] if action in ACTING else []
             there = "DELETE" if (event, action) == ("DELETE", "CASCADE") else "UPDATE"
-            if lost and any((other.table, other.event, other.for_each_row) == (key.table, there, False) for other in statement.triggers.values()):
-                yield "PostgreSQL runs a statement trigger for each row whose key a foreign key follows, even if it finds no row; here once, if rows change"
+            if lost and not level.rows(key.table, there) and any((other.table, other.event, other.for_each_row) == (key.table, there, False) and not other.tables for other in statement.triggers.values()):
+                yield "PostgreSQL runs a statement trigger for a foreign key that finds no row; here only if rows change"
                 return
 
 
-def restricted(statement: Statement, level: Level) -> Iterator[str]:
-    """RESTRICT, if the rows that refer change too or another foreign key comes first."""
+def followed_late(statement: Statement, level: Level) -> Iterator[str]:
+    """A row that comes to refer to a key in the statement that takes the key away."""
     for key in statement.catalogue.constraints.values():
-        lost = [each for each in statement.lost(key, level.changes) if "RESTRICT" == (key.on_delete if each.kind == "delete" else key.on_update)]
-        others = [each for each in statement.keys(key.referenced or "") if each is not key and (each.on_delete != "NO ACTION" or each.on_update != "NO ACTION")]
-        is_refused = level.is_cut and statement.cause == 12
-        if lost and (any(each.table == key.table for each in level.changes if each.kind != "insert" and (key.table != key.referenced or len(level.changes) > 1)) or (others and is_refused)):
-            yield "RESTRICT looks at the rows as before the statement here; PostgreSQL looks when the rows have changed"
+        lost = statement.lost(key, level.changes)
+        refers, to = (statement.places(key.table, key.columns), statement.places(key.referenced or "", key.referenced_columns)) if lost else ([], [])
+        gone = {values_at(each.before, to) for each in lost if each.before is not None and (key.on_delete if each.kind == "delete" else key.on_update) != "NO ACTION"}
+        rows = [each for each in level.changes if each.table == key.table and each.after is not None]
+        if any(values_at(each.after, refers) in gone and (each.before is None or values_at(each.before, refers) != values_at(each.after, refers)) for each in rows if each.after is not None):
+            yield f"PostgreSQL also follows {key.name} to rows that come to refer to the key in the same statement; here to those that referred to it before"
             return
+
+
+def restricted(statement: Statement, level: Level) -> Iterator[str]:
+    """A row that RESTRICT protects, if it changes in the statement too, or if another foreign key comes first."""
+    violation = statement.violation
+    if statement.cause != RESTRICT or not level.is_cut or violation is None:
+        return
+    key = statement.catalogue.constraints[violation.constraint]
+    others = [each for each in statement.keys(key.referenced or "") if each is not key and (each.on_delete != "NO ACTION" or each.on_update != "NO ACTION")]
+    if others or any((each.table, each.row) == (key.table, violation.row) for each in level.changes):
+        yield "RESTRICT looks at the rows as before the statement here; PostgreSQL looks when the rows have changed"
 
 
 def one_row_twice(statement: Statement, level: Level) -> Iterator[str]:
-    """Foreign keys that act on one row, if not all of them delete it."""
-    seen: dict[tuple[str, int], tuple[str, str]] = {}
+    """Foreign keys that act on one row, if something can tell the row between what they do."""
+    by_row: dict[tuple[str, int], list[Action]] = {}
     for action in level.actions:
-        did = action.constraint, action.action
-        first = seen.setdefault((action.table, action.row), did)
-        deletes = all(statement.catalogue.constraints[name].on_delete == "CASCADE" for name, _ in (first, did)) and all(each.kind == "delete" for each in level.changes if each.row == action.row)
-        if first != did and not deletes:
-            yield "several foreign keys act on one table: PostgreSQL takes them one after another; here in waves, in which a deletion wins"
+        by_row.setdefault((action.table, action.row), []).append(action)
+    for row, actions in by_row.items():
+        if len({each.constraint for each in actions}) > 1 and is_seen_between(statement, [each for each in level.changes if (each.table, each.row) == row], actions):
+            yield "several foreign keys act on one row: PostgreSQL takes them one after another; here in waves, in which a deletion wins"
             return
+
+
+def is_seen_between(statement: Statement, changes: list[Change], actions: list[Action]) -> bool:
+    """Whether two of the foreign keys set one column, a trigger runs for the table, or the row violates a constraint after one of them."""
+    is_deleted = bool(changes) and changes[-1].kind == "delete"
+    setting = {each.constraint: each for each in actions if not (is_deleted and each.action == "CASCADE")}
+    columns = [column for name in {each.constraint for each in actions} for column in statement.catalogue.constraints[name].columns]
+    if not changes or len(columns) != len(set(columns)) or any(each.table == actions[0].table for each in statement.triggers.values()):
+        return bool(setting)
+    between = [between_of(statement, changes, action) for action in setting.values()]
+    done = [] if statement.cause is None else statement.outcome.account.changes()
+    found = [(each, violated(statement.session, statement.catalogue, [*done, each])) for each in between]
+    return any(names is None or any(statement.is_at_once(name, [each]) for name in names) for each, names in found)
+
+
+def between_of(statement: Statement, changes: list[Change], action: Action) -> Change:
+    """What makes of a row as it is at last the one that it is after one of the actions."""
+    first, last = changes[0], changes[-1]
+    table = statement.catalogue.tables[action.table]
+    row = list(first.before or ())
+    for at in statement.places(action.table, statement.catalogue.constraints[action.constraint].columns):
+        kept = last.after[at] if last.after is not None else row[at]
+        row[at] = {"SET NULL": None, "SET DEFAULT": table.columns[at].default}.get(action.action, kept)
+    return Change("update", action.table, action.row, last.after, tuple(row))
 
 
 def no_action(statement: Statement, level: Level) -> Iterator[str]:
@@ -145,24 +190,14 @@ def null_in_late_key(statement: Statement, level: Level) -> Iterator[str]:
             return
 
 
-def violation_of(statement: Statement) -> Violation | None:
-    error = statement.outcome.error
-    return error.violations[0] if error is not None and error.violations else None
-
-
-def is_at_once(constraint: Constraint, statement: Statement) -> bool:
-    """Whether PostgreSQL tests a constraint as soon as a row is stored."""
-    is_key = constraint.kind in ("UNIQUE", "PRIMARY KEY")
-    return not constraint.deferrable and constraint.kind != "FOREIGN KEY" and (not is_key or (constraint.table, frozenset(constraint.columns)) in statement.referenced)
-
-
 def tested_after_trigger(statement: Statement, level: Level) -> Iterator[str]:
     """A constraint that PostgreSQL tests row by row when the statement ends, with the AFTER triggers of each row in between."""
-    violation = violation_of(statement)
-    if not level.is_cut or statement.cause != VIOLATION or violation is None or is_at_once(statement.catalogue.constraints[violation.constraint], statement):
+    violation = statement.violation
+    if not level.is_cut or statement.cause != VIOLATION or violation is None or statement.is_at_once(violation.constraint, level.changes):
         return
     running = {(each.table, each.event.lower()) for each in statement.triggers.values() if each.time == "AFTER" and each.for_each_row}
-    if len(level.changes) > 1 and any((each.table, each.kind) in running for each in level.changes):
+    is_first = level.changes and not level.actions and level.changes[0].row in (violation.row, violation.other_row)
+    if len(level.changes) > 1 and not is_first and any((each.table, each.kind) in running for each in level.changes):
         yield "PostgreSQL runs the AFTER triggers of a row before it tests the next row"
 
 
@@ -177,7 +212,7 @@ def signal_first(statement: Statement, level: Level) -> Iterator[str]:
         return
     rows = [Change("insert" if each.old is None else "update", trigger.table, 0, each.old, each.new) for each in earlier]
     found = violated(statement.session, statement.catalogue, rows)
-    if found is None or any(is_at_once(statement.catalogue.constraints[name], statement) for name in found):
+    if found is None or any(statement.is_at_once(name, rows) for name in found):
         yield "PostgreSQL stores and tests each row before the BEFORE triggers of the next; here these triggers come first"
 
 

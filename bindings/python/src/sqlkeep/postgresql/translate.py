@@ -62,6 +62,8 @@ class Translator:
         self._whole = whole_of(self.parts)
         #: The name here of each constraint there.
         self.constraints: dict[str, str] = {}
+        #: The columns of a table that PostgreSQL has as NOT NULL, with the constraint here that says so.
+        self.filled: list[tuple[tuple[str, str], str]] = []
         self._there: dict[str, str] = {}
         self._numbers: dict[str, int] = {}
         self._made = 0
@@ -107,6 +109,8 @@ class Translator:
         last = self.session.catalogue.constraints_of(table)[-len(constraints) :] if constraints else []
         for constraint, made in zip(constraints, last):
             constraint.name, constraint.there = made.name, plain_name(made.name)
+            if tables.is_of_column(constraint) or constraint.kind == "PRIMARY KEY":
+                self.filled += [((table, column), made.name) for column in constraint.columns]
             if tables.is_key(constraint) and constraint.there in self._whole.tables:
                 constraint.there = self._free_name(constraint.there)
                 found.renamed.append(f"{made.name} is {constraint.there} there: an index of PostgreSQL can't have the name of a table")
