@@ -43,8 +43,8 @@ def of_statement(statement: Statement) -> list[str]:
     """Why PostgreSQL may answer a statement otherwise, each reason once."""
     found = [*by_cause(statement), *of_names(sorted({word.word for word in statement.words if word.kind == "word"}))]
     if statement.words[0].word in EVENTS:
-        if statement.outcome.account:
-            for level in levels(statement.words, statement.outcome.account.events, statement.triggers, statement.outcome.error is not None):
+        if statement.account:
+            for level in levels(statement.words, statement.account.events, statement.triggers, statement.outcome.error is not None):
                 found += of_level(statement, level)
         found += of_long_keys(statement)
     if statement.cause is None and statement.words[0].word in (*EVENTS, "SELECT"):
@@ -136,7 +136,7 @@ def of_violations(statement: Statement, error: DatabaseError) -> Iterator[str]:
         yield "a CHECK that is out of range is violated here; in PostgreSQL it is an error"
     names = {each.constraint for each in error.violations}
     if error.cause in REFUSED_ROW and statement.words[0].word in EVENTS:
-        asked = violated(statement.session, statement.catalogue, statement.outcome.account.changes())
+        asked = violated(statement.session, statement.catalogue, statement.account.changes())
         names |= names if asked is None else {each for each in asked if not statement.catalogue.constraints[each].deferred}
         if asked is None:
             yield SEVERAL
@@ -147,10 +147,10 @@ def of_violations(statement: Statement, error: DatabaseError) -> Iterator[str]:
 
 def first_there(statement: Statement, names: set[str]) -> str | None:
     """The constraint that PostgreSQL names if these are violated; None if that can't be told."""
-    events = statement.outcome.account.events
+    events = statement.account.events
     if statement.words[0].word not in EVENTS or statement.cause != VIOLATION or not all(isinstance(each, (Change, Skipped, Violation)) for each in events):
         return None
-    stored = {each for each in names if statement.is_at_once(each, statement.outcome.account.changes())}
+    stored = {each for each in names if statement.is_at_once(each, statement.account.changes())}
     candidates = sorted(stored or names, key=lambda each: order_there(statement, each))
     is_one_row = sum(isinstance(each, Change) for each in events) == 1
     return candidates[0] if is_one_row or len(candidates) == 1 else None
@@ -160,7 +160,7 @@ def order_there(statement: Statement, name: str) -> tuple[int, str]:
     """Where PostgreSQL tests a constraint of a row: nulls, CHECK by name, keys that can't wait; then by the names of its triggers a
     PRIMARY KEY, foreign keys whose key is gone, other foreign keys, UNIQUE and what can wait. Of one kind a PRIMARY KEY comes first, and
     then the one that was made first."""
-    made, changes = statement.catalogue.constraints[name], statement.outcome.account.changes()
+    made, changes = statement.catalogue.constraints[name], statement.account.changes()
     place = f"{list(statement.catalogue.constraints).index(name):09}"
     if made.kind in ("CHECK", "NOT NULL"):
         return (7 if made.deferrable else 0 if made.kind == "NOT NULL" else 1), place if made.kind == "NOT NULL" else plain_name(name)
@@ -190,7 +190,7 @@ def is_beyond(first: int, sign: str, second: int) -> bool:
 
 
 def of_long_keys(statement: Statement) -> Iterator[str]:
-    changes = statement.outcome.account.changes()
+    changes = statement.account.changes()
     for key in statement.catalogue.constraints.values():
         if key.kind not in ("UNIQUE", "PRIMARY KEY") or not any(change.table == key.table for change in changes):
             continue

@@ -2,9 +2,10 @@
 from __future__ import annotations
 
 from dataclasses import dataclass
+from functools import cached_property
 from typing import Iterable, Iterator, Mapping, Sequence, Union
 
-from ..account import Action, Change, Event, Skipped, Violation
+from ..account import Account, Action, Change, Event, Skipped, Violation
 from ..account import Trigger as Ran
 from ..catalogue import Catalogue, Constraint
 from ..session import Outcome, Session
@@ -31,6 +32,11 @@ class Statement:
     session: Session
     triggers: Mapping[str, Trigger]
     referenced: set[KeyColumns]
+
+    @cached_property
+    def account(self) -> Account:
+        """What happened in it."""
+        return self.outcome.account
 
     @property
     def cause(self) -> int | None:

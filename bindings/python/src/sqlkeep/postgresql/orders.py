@@ -146,7 +146,7 @@ def is_seen_between(statement: Statement, changes: list[Change], actions: list[A
     if not changes or len(columns) != len(set(columns)) or any(each.table == actions[0].table for each in statement.triggers.values()):
         return bool(setting)
     between = [between_of(statement, changes, action) for action in setting.values()]
-    done = [] if statement.cause is None else statement.outcome.account.changes()
+    done = [] if statement.cause is None else statement.account.changes()
     found = [(each, violated(statement.session, statement.catalogue, [*done, each])) for each in between]
     return any(names is None or any(statement.is_at_once(name, [each]) for name in names) for each, names in found)
 

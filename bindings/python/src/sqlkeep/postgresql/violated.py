@@ -2,7 +2,7 @@
 from __future__ import annotations
 
 from collections import Counter
-from typing import Iterable
+from typing import Iterable, Sequence
 
 from ..account import Change
 from ..catalogue import Catalogue, Constraint, Table
@@ -13,7 +13,7 @@ __all__ = ["violated"]
 
 Rows = Counter[tuple[Value, ...]]
 # Beyond so many rows nothing is asked.
-MOST_ROWS = 4_000
+MOST_ROWS = 2_000
 AT_ONCE = 200
 ADD_REFUSED = 20
 
@@ -34,9 +34,9 @@ def constraint_text(constraint: Constraint) -> str:
     return f"{constraint.kind}{' NULLS NOT DISTINCT' if constraint.nulls_not_distinct else ''} {listed}"
 
 
-def changed(session: Session, catalogue: Catalogue, changes: Iterable[Change]) -> dict[str, Rows]:
-    """The rows of each table once these changes are made."""
-    rows: dict[str, Rows] = {name: Counter(session.execute(f"SELECT * FROM {name}").rows or []) for name in catalogue.tables}
+def changed(session: Session, tables: Iterable[str], changes: Iterable[Change]) -> dict[str, Rows]:
+    """The rows of tables once these changes are made."""
+    rows: dict[str, Rows] = {name: Counter(session.execute(f"SELECT * FROM {name}").rows or []) for name in tables}
     for change in changes:
         if change.before is not None:
             rows[change.table][change.before] -= 1
@@ -54,18 +54,23 @@ def fill(session: Session, table: str, rows: Rows) -> None:
     session.execute("COMMIT")
 
 
-def violated(session: Session, catalogue: Catalogue, changes: Iterable[Change]) -> set[str] | None:
-    """The constraints that the rows would violate once these changes are made; None if there are too many rows to ask."""
+def violated(session: Session, catalogue: Catalogue, changes: Sequence[Change]) -> set[str] | None:
+    """The constraints of the changed tables, and those that refer to them, that the rows would violate once these changes are made; None if
+    there are too many rows to ask."""
+    of = {each.table for each in changes}
+    asked = [each for each in catalogue.constraints.values() if each.table in of or each.referenced in of]
+    concerned = of | {each.table for each in asked} | {each.referenced for each in asked if each.referenced is not None}
     session.explain = False
-    rows = changed(session, catalogue, changes)
+    rows = changed(session, concerned, changes)
     session.explain = True
     if sum(sum(each.values()) for each in rows.values()) > MOST_ROWS:
         return None
+    keys = [each for each in catalogue.constraints.values() if each.kind in ("UNIQUE", "PRIMARY KEY") and each.table in concerned and each not in asked]
     with Session() as other:
-        for table in catalogue.tables.values():
-            other.execute(table_text(table))
-            fill(other, table.name, rows[table.name])
-        in_order = sorted(catalogue.constraints.values(), key=lambda each: each.kind == "FOREIGN KEY")
+        for name in concerned:
+            other.execute(table_text(catalogue.tables[name]))
+            fill(other, name, rows[name])
+        in_order = sorted([*keys, *asked], key=lambda each: each.kind == "FOREIGN KEY")
         return {each.name for each in in_order if is_refused(other, each)}
 
 
