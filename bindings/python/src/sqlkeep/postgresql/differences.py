@@ -101,8 +101,11 @@ def reason_of(error: DatabaseError) -> str:
     return reason.text if reason is not None else ""
 
 
-def of_shape(_: Statement, error: DatabaseError) -> Iterator[str]:
-    """PostgreSQL makes a text of an integer and an integer of a text that looks like one, and fills columns."""
+def of_shape(statement: Statement, error: DatabaseError) -> Iterator[str]:
+    """PostgreSQL makes a text of an integer and an integer of a text that looks like one, and fills columns. It reads a body late."""
+    if statement.words[1].word == "TRIGGER":
+        yield "WrongShape here: PostgreSQL looks at a body when the trigger runs"
+        return
     reason = reason_of(error)
     counts = re.search(r" (\d+) values? for (\d+) columns?", reason)
     if (counts is not None and int(counts[1]) < int(counts[2])) or (counts is None and (NUMBER.search(reason) or "is an integer" in reason or not reason)):

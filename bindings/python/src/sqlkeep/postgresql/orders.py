@@ -94,13 +94,14 @@ def followed(statement: Statement, level: Level) -> Iterator[str]:
 
 
 def followed_in_vain(statement: Statement, level: Level) -> Iterator[str]:
-    """A statement trigger of a table in which a foreign key finds no row."""
+    """A statement trigger of a table that a foreign key follows: BEFORE, or AFTER if no row is found."""
     for key in statement.catalogue.constraints.values():
         for event, action in (("DELETE", key.on_delete), ("UPDATE", key.on_update)):
             lost = [each for each in statement.lost(key, level.changes) if each.kind == event.lower()] if action in ACTING else []
             there = "DELETE" if (event, action) == ("DELETE", "CASCADE") else "UPDATE"
-            if lost and not level.rows(key.table, there) and any((other.table, other.event, other.for_each_row) == (key.table, there, False) and not other.tables for other in statement.triggers.values()):
-                yield "PostgreSQL runs a statement trigger for a foreign key that finds no row; here only if rows change"
+            running = [each for each in statement.triggers.values() if (each.table, each.event, each.for_each_row) == (key.table, there, False)]
+            if lost and any(each.time == "BEFORE" or not (each.tables or level.rows(key.table, there)) for each in running):
+                yield "PostgreSQL runs a statement trigger for what a foreign key does, even if it finds no row; here an AFTER trigger if rows change"
                 return
 
 

@@ -137,10 +137,11 @@ class Translator:
                 del self._triggers[name]
             return
         trigger = reading.trigger(found.text)
+        self._made += 1
+        number = self._numbers[name] if name in self._triggers else self._made
         if found.outcome.error is None:
-            self._made += 1
-            self._numbers[name], self._triggers[name] = self._made, trigger
-        found.statements = triggers.created(trigger, self._numbers.get(name, self._made + 1))
+            self._numbers[name], self._triggers[name] = number, trigger
+        found.statements = triggers.created(trigger, number)
 
     def _transaction(self, found: Translation, words: list[Token]) -> None:
         first, last = words[0].word, words[-1].word
