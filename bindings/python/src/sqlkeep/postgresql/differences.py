@@ -160,18 +160,25 @@ def first_there(statement: Statement, names: set[str]) -> str | None:
 
 
 def order_there(statement: Statement, name: str) -> tuple[int, str]:
-    """Where PostgreSQL tests a constraint of a row: nulls, CHECK by name, keys that can't wait; then by the names of its triggers a
+    """Where PostgreSQL tests a constraint of a row: nulls by column, CHECK by name, keys that can't wait; then by the names of its triggers a
     PRIMARY KEY, foreign keys whose key is gone, other foreign keys, UNIQUE and what can wait. Of one kind a PRIMARY KEY comes first, and
     then the one that was made first."""
     made, changes = statement.catalogue.constraints[name], statement.account.changes()
     place = f"{list(statement.catalogue.constraints).index(name):09}"
+    nulls = null_places(statement, made)
+    if nulls and (made.kind == "PRIMARY KEY" or name in statement.filled):
+        return 0, f"{nulls[0]:09}"
     if made.kind in ("CHECK", "NOT NULL"):
-        return (7 if made.deferrable else 0 if made.kind == "NOT NULL" else 1), place if made.kind == "NOT NULL" else plain_name(name)
+        return (7 if made.deferrable else 1), plain_name(name)
     if made.kind == "FOREIGN KEY":
         return (4 if statement.lost(made, changes) else 5), place
-    if statement.is_at_once(name, changes):
-        return (2, "" if made.kind == "PRIMARY KEY" else place) if statement.is_at_once(name) else (0, place)
-    return (3 if made.kind == "PRIMARY KEY" else 6), place
+    return (2 if statement.is_at_once(name) else 3 if made.kind == "PRIMARY KEY" else 6), "" if made.kind == "PRIMARY KEY" else place
+
+
+def null_places(statement: Statement, constraint: Constraint) -> list[int]:
+    """The columns of a constraint in which a changed row has NULL."""
+    rows = [each.after for each in statement.account.changes() if each.table == constraint.table and each.after is not None]
+    return sorted(at for at in statement.places(constraint.table, constraint.columns) if any(row[at] is None for row in rows))
 
 
 def is_out_of_range(violation: Violation) -> bool:

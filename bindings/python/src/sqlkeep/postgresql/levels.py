@@ -24,7 +24,7 @@ Asked = Union[Ran, Skipped]
 @dataclass
 class Statement:
     """A statement that was executed: its words, what it answered, the catalogue before it, the triggers by their names in creation order,
-    and the keys that foreign keys refer to."""
+    the keys that foreign keys refer to, and the constraints that are NOT NULL of a column there."""
 
     words: Sequence[Token]
     outcome: Outcome
@@ -32,6 +32,7 @@ class Statement:
     session: Session
     triggers: Mapping[str, Trigger]
     referenced: set[KeyColumns]
+    filled: set[str]
 
     @cached_property
     def account(self) -> Account:

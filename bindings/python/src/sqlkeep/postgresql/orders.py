@@ -32,13 +32,14 @@ def is_acted(asked: list[Asked]) -> bool:
 
 
 def keys_row_by_row(statement: Statement, level: Level) -> Iterator[str]:
-    for table, columns in sorted((table, sorted(columns)) for table, columns in statement.referenced):
-        if table not in statement.catalogue.tables or not set(columns) <= {each.name for each in statement.catalogue.tables[table].columns}:
+    """A key that one row gets and another row had before."""
+    for key in statement.catalogue.constraints.values():
+        if key.kind not in ("UNIQUE", "PRIMARY KEY") or (key.table, frozenset(key.columns)) not in statement.referenced:
             continue
-        places = statement.places(table, columns)
-        moved = [(values_at(each.before, places), values_at(each.after, places)) for each in level.rows(table, "UPDATE") if each.before is not None and each.after is not None]
+        places = statement.places(key.table, key.columns)
+        moved = [(values_at(each.before, places), values_at(each.after, places)) for each in level.rows(key.table, "UPDATE") if each.before is not None and each.after is not None]
         before = {old for old, new in moved if old != new}
-        if any(new in before and new != old and None not in new for old, new in moved):
+        if any(new in before and new != old and (None not in new or key.nulls_not_distinct) for old, new in moved):
             yield "PostgreSQL tests a key that foreign keys refer to row by row; here when the statement ends"
             return
 

@@ -104,16 +104,17 @@ def trigger_of(table: str, constraint: Constraint) -> list[Sql]:
     ]
 
 
-def doubles(constraints: list[Constraint]) -> list[Constraint]:
-    """The keys with the columns of another one of their table. PostgreSQL makes one of two keys that are alike in one statement."""
-    in_order = sorted(filter(is_key, constraints), key=lambda each: each.kind != "PRIMARY KEY")
-    return [each for at, each in enumerate(in_order) if any(other.columns == each.columns for other in in_order[:at])]
+def doubles(table: Table, referenced: Iterable[KeyColumns]) -> list[Constraint]:
+    """The keys that are as another one of their table except for their names. PostgreSQL makes one of two in one statement."""
+    in_order = sorted(filter(is_key, table.constraints), key=lambda each: each.kind != "PRIMARY KEY")
+    alike = [(each.columns, each.nulls_are_equal, key_mode(table.name, each, referenced)) for each in in_order]
+    return [each for at, each in enumerate(in_order) if alike[at] in alike[:at]]
 
 
 def created(table: Table, referenced: Iterable[KeyColumns]) -> list[Sql]:
     """The statements that make a table, one element a line."""
     filled = {each.columns[0] for each in table.constraints if is_of_column(each)}
-    later = doubles(table.constraints)
+    later = doubles(table, referenced)
     parts = [column_text(column, column.name in filled) for column in table.columns]
     parts += [constraint_text(table.name, each, referenced) for each in table.constraints if not is_by_trigger(each) and not is_of_column(each) and not any(each is key for key in later)]
     more = [text for each in table.constraints if is_by_trigger(each) for text in trigger_of(table.name, each)]

@@ -81,7 +81,7 @@ class Translator:
         words = words[:-1] if words[-1].word == ";" else words
         found = Translation(text, outcome, catalogue, event=words[0].word)
         self._write(found, words, was_open)
-        found.differs = differences.of_statement(Statement(words, outcome, catalogue, self.session, self._triggers, self._whole.referenced))
+        found.differs = differences.of_statement(Statement(words, outcome, catalogue, self.session, self._triggers, self._whole.referenced, {name for _, name in self.filled}))
         return found
 
     def _write(self, found: Translation, words: list[Token], was_open: bool) -> None:
