@@ -17,7 +17,7 @@ RESTRICT, VIOLATION, SIGNAL = 12, 13, 15
 
 def of_level(statement: Statement, level: Level) -> Iterator[str]:
     """What comes otherwise in PostgreSQL."""
-    for told in (keys_row_by_row, row_triggers, statement_triggers, changed_rows_seen, followed, followed_in_vain, followed_late, restricted, one_row_twice, no_action, default_lost, null_in_late_key, tested_after_trigger, signal_first, column_lists, hidden_table):
+    for told in (keys_row_by_row, row_triggers, statement_triggers, changed_rows_seen, followed, followed_in_vain, followed_late, restricted, one_row_twice, changed_further, no_action, default_lost, null_in_late_key, tested_after_trigger, signal_first, column_lists, hidden_table):
         yield from told(statement, level)
 
 
@@ -38,7 +38,7 @@ def keys_row_by_row(statement: Statement, level: Level) -> Iterator[str]:
             continue
         places = statement.places(key.table, key.columns)
         moved = [(values_at(each.before, places), values_at(each.after, places)) for each in level.rows(key.table, "UPDATE") if each.before is not None and each.after is not None]
-        before = {old for old, new in moved if old != new}
+        before = {old for old, new in moved if old != new} | {values_at(each.before, places) for each in level.rows(key.table, "DELETE") if each.before is not None}
         if any(new in before and new != old and (None not in new or key.nulls_not_distinct) for old, new in moved):
             yield "PostgreSQL tests a key that foreign keys refer to row by row; here when the statement ends"
             return
@@ -89,7 +89,8 @@ def followed(statement: Statement, level: Level) -> Iterator[str]:
     """Foreign keys that act, beside triggers: one row with one trigger that looks at nothing else can't come out otherwise."""
     acted = [trigger for trigger, asked in defined(statement, level, "AFTER") if is_acted(asked)]
     changed = {each.table for each in level.changes}
-    is_alone = len(acted) == 1 and len(level.rows(level.table, level.event)) < 2 and not tables_of(acted[0]) & changed
+    waiting = [each for each in statement.triggers.values() if level.is_cut and each.time == "AFTER" and each not in acted and level.rows(each.table, each.event)]
+    is_alone = len(acted) == 1 and not waiting and len(level.rows(level.table, level.event)) < 2 and not tables_of(acted[0]) & changed
     if level.actions and acted and not is_alone:
         yield "PostgreSQL follows foreign keys row by row, and runs the triggers of what follows at once; here AFTER triggers run when all has followed"
 
@@ -153,6 +154,21 @@ def is_seen_between(statement: Statement, changes: list[Change], actions: list[A
     return any(names is None or any(statement.is_at_once(name, [each]) for name in names) for each, names in found)
 
 
+def changed_further(statement: Statement, level: Level) -> Iterator[str]:
+    """A row that violates a constraint until foreign keys have changed it further."""
+    last = {(each.table, each.row): each for each in level.changes}
+    done = [] if statement.cause is None else statement.account.changes()
+    for each in level.changes:
+        final = last[each.table, each.row]
+        if final is each or each.after is None:
+            continue
+        between = Change("update", each.table, each.row, final.after, each.after)
+        found = violated(statement.session, statement.catalogue, [*done, between])
+        if found is None or any(statement.is_at_once(name, [between]) for name in found):
+            yield "PostgreSQL tests a row as soon as it is stored; here when foreign keys have changed it further"
+            return
+
+
 def between_of(statement: Statement, changes: list[Change], action: Action) -> Change:
     """What makes of a row as it is at last the one that it is after one of the actions."""
     first, last = changes[0], changes[-1]
@@ -198,7 +214,8 @@ def tested_after_trigger(statement: Statement, level: Level) -> Iterator[str]:
     if not level.is_cut or statement.cause != VIOLATION or violation is None or statement.is_at_once(violation.constraint, level.changes):
         return
     running = {(each.table, each.event.lower()) for each in statement.triggers.values() if each.time == "AFTER" and each.for_each_row}
-    is_first = level.changes and not level.actions and level.changes[0].row in (violation.row, violation.other_row)
+    found = [at for at, each in enumerate(level.changes) if each.row in (violation.row, violation.other_row)]
+    is_first = found[-1:] == [0] and not level.actions
     if len(level.changes) > 1 and not is_first and any((each.table, each.kind) in running for each in level.changes):
         yield "PostgreSQL runs the AFTER triggers of a row before it tests the next row"
 
