@@ -5,7 +5,7 @@ from typing import Iterator
 
 from ..account import Action, Change, Skipped
 from ..account import Trigger as Ran
-from .levels import Asked, Level, Statement, values_at
+from .levels import EVENTS, Asked, Level, Statement, values_at
 from .reading import Trigger
 from .violated import violated
 
@@ -13,6 +13,7 @@ __all__ = ["of_level"]
 
 ACTING = ("CASCADE", "SET NULL", "SET DEFAULT")
 RESTRICT, VIOLATION, SIGNAL = 12, 13, 15
+ONE_ROW = "several foreign keys act on one row: PostgreSQL takes them one after another; here in waves, in which a deletion wins"
 
 
 def of_level(statement: Statement, level: Level) -> Iterator[str]:
@@ -48,9 +49,9 @@ def row_triggers(statement: Statement, level: Level) -> Iterator[str]:
     for time in ("BEFORE", "AFTER"):
         found = [(trigger, asked) for trigger, asked in defined(statement, level, time) if trigger.for_each_row]
         for trigger, asked in found:
-            others = [name for name, other in statement.triggers.items() if other is not trigger and (other.time, other.event, other.table, other.for_each_row) == (time, trigger.event, trigger.table, True)]
-            were_asked = [name for name in others if any(each.name == name for each in level.asked)]
-            if len(asked) > 1 and (were_asked or (level.is_cut and others)) and any(is_acted(each) for _, each in found):
+            others = [other for other in statement.triggers.values() if other is not trigger and (other.time, other.event, other.table, other.for_each_row) == (time, trigger.event, trigger.table, True)]
+            is_told = level.is_cut or (time == "AFTER" and any(other.name in {each.name for each in level.asked} and meet(statement, trigger, other) for other in others))
+            if len(asked) > 1 and others and is_told and any(is_acted(each) for _, each in found):
                 yield "several row triggers run at one time: here one after another over all rows, and in PostgreSQL all of them row by row"
                 return
 
@@ -60,9 +61,27 @@ def statement_triggers(statement: Statement, level: Level) -> Iterator[str]:
     found = defined(statement, level, "AFTER")
     for trigger, asked in found:
         later = [other for name, other in statement.triggers.items() if other.for_each_row and (other.time, other.event, other.table) == ("AFTER", trigger.event, trigger.table) and order.index(name) > order.index(trigger.name)]
-        if not trigger.for_each_row and later and level.rows(trigger.table, trigger.event) and (is_acted(asked) or any(is_acted(each) for other, each in found if other in later)):
+        is_any = is_acted(asked) or any(is_acted(each) for other, each in found if other in later)
+        if not trigger.for_each_row and is_any and level.rows(trigger.table, trigger.event) and (level.is_cut and later or any(meet(statement, trigger, other) for other in later)):
             yield "PostgreSQL runs the row triggers of a table before its statement triggers; here in creation order"
             return
+
+
+def written_by(trigger: Trigger) -> set[str]:
+    """The tables that the body of a trigger changes."""
+    return {act[EVENTS[act[0].word]].word for act in trigger.acts if act[0].word in EVENTS}
+
+
+def read_by(trigger: Trigger) -> set[str]:
+    """The tables that a trigger looks at, in its condition and in its body."""
+    words = [token.word for act in [trigger.when, *trigger.acts] for token in act]
+    return {behind for word, behind in zip(words, words[1:]) if word in ("FROM", "UPDATE")}
+
+
+def meet(statement: Statement, first: Trigger, other: Trigger) -> bool:
+    """Whether it matters which of two triggers runs first: one changes what the other looks at, or triggers run for what both change."""
+    running = {each.table for each in statement.triggers.values()}
+    return bool(written_by(first) & read_by(other) or written_by(other) & read_by(first) or (written_by(first) | written_by(other)) & running)
 
 
 def tables_asked(trigger: Trigger) -> set[str]:
@@ -79,18 +98,12 @@ def changed_rows_seen(statement: Statement, level: Level) -> Iterator[str]:
             return
 
 
-def tables_of(trigger: Trigger) -> set[str]:
-    """The tables that the body of a trigger names."""
-    words = [token.word for act in [trigger.when, *trigger.acts] for token in act]
-    return {behind for word, behind in zip(words, words[1:]) if word in ("FROM", "INTO", "UPDATE")}
-
-
 def followed(statement: Statement, level: Level) -> Iterator[str]:
     """Foreign keys that act, beside triggers: one row with one trigger that looks at nothing else can't come out otherwise."""
     acted = [trigger for trigger, asked in defined(statement, level, "AFTER") if is_acted(asked)]
     changed = {each.table for each in level.changes}
     waiting = [each for each in statement.triggers.values() if level.is_cut and each.time == "AFTER" and each not in acted and level.rows(each.table, each.event)]
-    is_alone = len(acted) == 1 and not waiting and len(level.rows(level.table, level.event)) < 2 and not tables_of(acted[0]) & changed
+    is_alone = len(acted) == 1 and not waiting and len(level.rows(level.table, level.event)) < 2 and not (read_by(acted[0]) | written_by(acted[0])) & changed
     if level.actions and acted and not is_alone:
         yield "PostgreSQL follows foreign keys row by row, and runs the triggers of what follows at once; here AFTER triggers run when all has followed"
 
@@ -131,42 +144,35 @@ def restricted(statement: Statement, level: Level) -> Iterator[str]:
 
 
 def one_row_twice(statement: Statement, level: Level) -> Iterator[str]:
-    """Foreign keys that act on one row, if something can tell the row between what they do."""
-    by_row: dict[tuple[str, int], list[Action]] = {}
+    """Foreign keys that act on one row, if they set one column, a trigger runs for the table, or a row violates a constraint after one of them."""
+    by_row: dict[tuple[str, int], dict[str, Action]] = {}
     for action in level.actions:
-        by_row.setdefault((action.table, action.row), []).append(action)
+        by_row.setdefault((action.table, action.row), {})[action.constraint] = action
+    changes: dict[tuple[str, int], list[Change]] = {}
+    for change in level.changes:
+        changes.setdefault((change.table, change.row), []).append(change)
+    between: list[list[Change]] = []
     for row, actions in by_row.items():
-        if len({each.constraint for each in actions}) > 1 and is_seen_between(statement, [each for each in level.changes if (each.table, each.row) == row], actions):
-            yield "several foreign keys act on one row: PostgreSQL takes them one after another; here in waves, in which a deletion wins"
-            return
-
-
-def is_seen_between(statement: Statement, changes: list[Change], actions: list[Action]) -> bool:
-    """Whether two of the foreign keys set one column, a trigger runs for the table, or the row violates a constraint after one of them."""
-    is_deleted = bool(changes) and changes[-1].kind == "delete"
-    setting = {each.constraint: each for each in actions if not (is_deleted and each.action == "CASCADE")}
-    columns = [column for name in {each.constraint for each in actions} for column in statement.catalogue.constraints[name].columns]
-    if not changes or len(columns) != len(set(columns)) or any(each.table == actions[0].table for each in statement.triggers.values()):
-        return bool(setting)
-    between = [between_of(statement, changes, action) for action in setting.values()]
-    done = [] if statement.cause is None else statement.account.changes()
-    found = [(each, violated(statement.session, statement.catalogue, [*done, each])) for each in between]
-    return any(names is None or any(statement.is_at_once(name, [each]) for name in names) for each, names in found)
-
-
-def changed_further(statement: Statement, level: Level) -> Iterator[str]:
-    """A row that violates a constraint until foreign keys have changed it further."""
-    last = {(each.table, each.row): each for each in level.changes}
-    done = [] if statement.cause is None else statement.account.changes()
-    for each in level.changes:
-        final = last[each.table, each.row]
-        if final is each or each.after is None:
+        found = changes.get(row, [])
+        setting = [each for each in actions.values() if not (found and found[-1].after is None and each.action == "CASCADE")]
+        columns = [column for name in actions for column in statement.catalogue.constraints[name].columns]
+        if len(actions) < 2 or not setting:
             continue
-        between = Change("update", each.table, each.row, final.after, each.after)
-        found = violated(statement.session, statement.catalogue, [*done, between])
-        if found is None or any(statement.is_at_once(name, [between]) for name in found):
-            yield "PostgreSQL tests a row as soon as it is stored; here when foreign keys have changed it further"
+        if not found or len(columns) != len(set(columns)) or any(each.table == row[0] for each in statement.triggers.values()):
+            yield ONE_ROW
             return
+        between += [[] for _ in range(len(setting) - len(between))]
+        for at, action in enumerate(setting):
+            between[at].append(between_of(statement, found, action))
+    if any(is_violated(statement, each) for each in between):
+        yield ONE_ROW
+
+
+def is_violated(statement: Statement, between: list[Change]) -> bool:
+    """Whether rows as they are for a while violate what PostgreSQL tests at once. The changes are of the rows as they are at last."""
+    done = [] if statement.cause is None else statement.account.changes()
+    found = violated(statement.session, statement.catalogue, [*done, *between])
+    return found is None or any(statement.is_at_once(name, between) for name in found)
 
 
 def between_of(statement: Statement, changes: list[Change], action: Action) -> Change:
@@ -178,6 +184,15 @@ def between_of(statement: Statement, changes: list[Change], action: Action) -> C
         kept = last.after[at] if last.after is not None else row[at]
         row[at] = {"SET NULL": None, "SET DEFAULT": table.columns[at].default}.get(action.action, kept)
     return Change("update", action.table, action.row, last.after, tuple(row))
+
+
+def changed_further(statement: Statement, level: Level) -> Iterator[str]:
+    """A row that violates a constraint until foreign keys have changed it further."""
+    last = {(each.table, each.row): each for each in level.changes}
+    earlier = {(each.table, each.row): each for each in reversed(level.changes) if last[each.table, each.row] is not each and each.after is not None}
+    between = [Change("update", each.table, each.row, last[row].after, each.after) for row, each in earlier.items()]
+    if between and is_violated(statement, between):
+        yield "PostgreSQL tests a row as soon as it is stored; here when foreign keys have changed it further"
 
 
 def no_action(statement: Statement, level: Level) -> Iterator[str]:
@@ -244,9 +259,6 @@ def column_lists(statement: Statement, level: Level) -> Iterator[str]:
 
 
 def hidden_table(statement: Statement, level: Level) -> Iterator[str]:
-    for each in level.asked:
-        trigger = statement.triggers.get(each.name)
-        targets = {words[2 if words[0].word != "UPDATE" else 1].word for words in trigger.acts if words[0].word in ("INSERT", "UPDATE", "DELETE")} if trigger else set()
-        if trigger is not None and not isinstance(each, Skipped) and targets & set(trigger.tables):
-            yield "a transition table has the name of a table, which PostgreSQL lets no statement of the body change"
-            return
+    ran = [statement.triggers[each.name] for each in level.asked if not isinstance(each, Skipped) and each.name in statement.triggers]
+    if any(written_by(trigger) & set(trigger.tables) for trigger in ran):
+        yield "a transition table has the name of a table, which PostgreSQL lets no statement of the body change"
