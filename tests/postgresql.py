@@ -64,7 +64,7 @@ def tried(server, folder, words):
     failed = judged(found, words)
     others = {}
     if not words.only or words.only in "foretold":
-        others.update(foretold.results(server.dsn))
+        others.update(foretold.results(server.dsn, Path(folder, "package")))
     if not words.only or words.only in "hostile":
         others.update(hostile.results(server, Path(folder, "psql"), Path(folder, "package")))
     for name, wrong in others.items():

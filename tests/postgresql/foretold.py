@@ -135,18 +135,18 @@ def judged(script, expected, dsn):
     return [] if right and is_true and found.is_foretold else [f"{({at: each.differs for at, each in notes.items()})}\n{commands.told(found)}"]
 
 
-def schemas(dsn):
+def schemas(dsn, package):
     """The name of a schema may be anything; one that can't be is told, with status 2."""
     wrong = []
     for schema, status in (('a"b', 0), ("A b;--", 0), ("pg_x", 2), ("", 2), ("public", 2)):
-        command = [sys.executable, "-c", "import sys; sys.path[:0] = sys.argv[1:2]; from sqlkeep.postgresql import commands; sys.exit(commands.main(sys.argv[2:]))", sys.path[0], "compare", "-", "--postgresql", dsn, "--schema", schema]
-        done = subprocess.run(command, input=b"CREATE TABLE t (a INT); INSERT INTO t VALUES (1);", capture_output=True, check=False)
+        command = [sys.executable, "-m", "sqlkeep", "compare", "-", "--postgresql", dsn, "--schema", schema]
+        done = subprocess.run(command, env={"PYTHONPATH": str(package)}, input=b"CREATE TABLE t (a INT); INSERT INTO t VALUES (1);", capture_output=True, check=False)
         if done.returncode != status or b"Traceback" in done.stderr or (status and not done.stderr.startswith(b"sqlkeep: ")):
             wrong.append(f"--schema {schema}: {done}")
     return wrong
 
 
-def results(dsn):
+def results(dsn, package):
     """What is wrong, by the name of the case."""
     import psycopg2  # pylint: disable=import-outside-toplevel,import-error
     there = psycopg2.connect(dsn)
@@ -155,5 +155,5 @@ def results(dsn):
     there.close()
     found = {name: judged(script, expected, dsn) for name, (script, expected) in CASES.items()}
     found["literals in another collation"] = judged(*LITERALS, dsn.replace("dbname=postgres", "dbname=linguistic"))
-    found["schemas"] = schemas(dsn)
+    found["schemas"] = schemas(dsn, package)
     return found

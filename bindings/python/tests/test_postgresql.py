@@ -103,11 +103,13 @@ class ToPostgresql(unittest.TestCase):
         assert last(PARENT + "CREATE TABLE c (x INT CONSTRAINT fk REFERENCES p DEFERRABLE); START TRANSACTION; SET CONSTRAINTS ALL DEFERRED;") == ['SET CONSTRAINTS "fk" DEFERRED']
 
     def test_a_difference_is_told_above_its_statement(self):
-        script = psql_script(translated(PARENT + "CREATE TABLE c (x INT REFERENCES p ON UPDATE CASCADE); UPDATE p SET k = k + 1;"))
-        assert "-- differs: PostgreSQL tests a key that foreign keys refer to row by row; here when the statement ends\nBEGIN;\nUPDATE \"p\" SET \"k\" = \"k\" + 1;\n" in script
+        script = psql_script(translated(PARENT + "CREATE TABLE c (x INT REFERENCES p ON UPDATE CASCADE); INSERT INTO p VALUES (1), (2); UPDATE p SET k = k + 1;"))
+        assert '-- differs: PostgreSQL tests a key that foreign keys refer to row by row; here when the statement ends\nUPDATE "p" SET "k" = "k" + 1;\n' in script
 
     def test_nothing_is_told_where_nothing_differs(self):
         assert reasons(PARENT + "INSERT INTO p VALUES (1);") == ""
+        assert reasons(PARENT + "CREATE TABLE c (x INT REFERENCES p ON UPDATE CASCADE); INSERT INTO p VALUES (1), (2); UPDATE p SET k = k + 2;") == ""
+        assert reasons("CREATE TABLE t (a INT UNIQUE, b INT NOT NULL); INSERT INTO t VALUES (1, NULL);") == ""
 
     def test_a_fault_of_the_script_is_an_error(self):
         with self.assertRaises(ProgrammingError):

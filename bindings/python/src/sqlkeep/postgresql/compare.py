@@ -22,6 +22,8 @@ SETTINGS = ("SET standard_conforming_strings = on", "SET client_min_messages TO 
 # Statements that may change rows, and those whose effect is in the rows and the transaction alone.
 CHANGING = ("INSERT", "UPDATE", "DELETE", "COMMIT", "ROLLBACK")
 ENDED = (*CHANGING[:4], "SELECT")
+# The rows of a table that is compared whole after each statement.
+LARGE = 1_000
 NOT_NULL, RAISED = "23502", "45000"
 # The causes of refusals that PostgreSQL names a constraint or a trigger for.
 OF_ROWS, SIGNAL = (12, 13, 14, 19, 20), 15
@@ -160,6 +162,11 @@ class Server:
         self._execute(sql("SELECT * FROM {}", name(table)))
         return Answer(rows=self._cursor.fetchall())
 
+    def count(self, table: str) -> Answer:
+        """The number of rows of a table."""
+        self._execute(sql("SELECT count(*) FROM {}", name(table)))
+        return Answer(self._cursor.fetchone()[0])
+
     def undo(self) -> None:
         """Goes back behind a refused statement."""
         if self._connection.closed:
@@ -203,19 +210,26 @@ def are_same(here: Answer, there: Answer) -> bool:
     return here.rows is None and there.rows is None and here.count == there.count
 
 
-def other_rows(session: Session, server: Server) -> dict[str, tuple[Answer, Answer]]:
-    """The tables whose rows differ, with those here and there."""
+def other_rows(session: Session, server: Server, is_end: bool) -> dict[str, tuple[Answer, Answer]]:
+    """The tables whose rows differ, with those here and there. Of a large table only the number of rows is compared, except at the end of a
+    transaction."""
+    found = {}
     session.explain = False
-    found = {table: (Answer(rows=session.execute(f"SELECT * FROM {table}").rows), server.rows(table)) for table in session.catalogue.tables}
+    for table in session.catalogue.tables:
+        here = Answer(rows=session.execute(f"SELECT * FROM {table}").rows or [])
+        there = server.rows(table) if is_end or len(here.rows or []) <= LARGE else server.count(table)
+        here = here if there.rows is not None else Answer(len(here.rows or []))
+        if not are_same(here, there):
+            found[table] = here, there
     session.explain = True
-    return {table: (here, there) for table, (here, there) in found.items() if not are_same(here, there)}
+    return found
 
 
 def step(translation: Translation, translator: Translator, server: Server, errors: tuple[type[Exception], ...], found: Comparison) -> bool:
     """Compares a statement, and answers whether the next one can be compared too."""
     here, there = here_of(translation), there_of(server, translation, translator, errors)
     found.translations.append(translation)
-    tables = other_rows(translator.session, server) if translation.event in CHANGING else {}
+    tables = other_rows(translator.session, server, translation.event in ("COMMIT", "ROLLBACK")) if translation.event in CHANGING else {}
     is_left_same = not tables and translator.session.in_transaction == server.is_open()
     if are_same(here, there) and is_left_same:
         found.same += 1

@@ -42,7 +42,7 @@ ARITHMETIC = ("+", "-", "*")
 def of_statement(statement: Statement) -> list[str]:
     """Why PostgreSQL may answer a statement otherwise, each reason once."""
     found = [*by_cause(statement), *of_names(sorted({word.word for word in statement.words if word.kind == "word"}))]
-    if statement.words[0].word in EVENTS:
+    if statement.words[0].word in EVENTS and (statement.cause is not None or is_concerned(statement)):
         if statement.account:
             for level in levels(statement.words, statement.account.events, statement.triggers, statement.outcome.error is not None):
                 found += of_level(statement, level)
@@ -50,6 +50,12 @@ def of_statement(statement: Statement) -> list[str]:
     if statement.cause is None and statement.words[0].word in (*EVENTS, "SELECT"):
         found += of_constants(statement)
     return list(dict.fromkeys(found))
+
+
+def is_concerned(statement: Statement) -> bool:
+    """Whether the table of a data statement has a constraint, a trigger or a foreign key that refers to it."""
+    table = statement.words[EVENTS[statement.words[0].word]].word
+    return any(table in (each.table, each.referenced) for each in statement.catalogue.constraints.values()) or any(each.table == table for each in statement.triggers.values())
 
 
 def by_cause(statement: Statement) -> Iterator[str]:
@@ -72,7 +78,9 @@ def of_unknown(statement: Statement, error: DatabaseError) -> Iterator[str]:
 
 def of_duplicate(statement: Statement, error: DatabaseError) -> Iterator[str]:
     fault = error.account.name if error.account is not None else None
-    if fault is None or fault.kind == "constraint":
+    if fault is not None and fault.kind == "REFERENCING name":
+        yield "Duplicate here: row variables have no name in PostgreSQL"
+    elif fault is None or fault.kind == "constraint":
         yield "Duplicate here: PostgreSQL keeps the names of constraints table by table"
 
 
