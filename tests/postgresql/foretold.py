@@ -108,6 +108,9 @@ CASES = {
         """CREATE TABLE t (a INT); INSERT INTO t VALUES ((2147483647) + (1)); INSERT INTO t VALUES (-(2147483647 + (1)) * (2)); SELECT a FROM t WHERE a > (2147483647) * ((2));""", {}),
     "names that are cut": (
         f"""CREATE TABLE {LONG} (a INT); INSERT INTO {LONG} VALUES (1);""", {1: "PostgreSQL cuts", 2: "PostgreSQL cuts"}),
+    "constraints whose names are long": (
+        f"""CREATE TABLE {LONG[:62]} (a INT UNIQUE, b INT UNIQUE, c INT CHECK (c > 0) DEFERRABLE, d INT CHECK (d > 0) DEFERRABLE); INSERT INTO {LONG[:62]} VALUES (1, 1, 1, 1);
+        INSERT INTO {LONG[:62]} VALUES (1, 2, 1, 1); INSERT INTO {LONG[:62]} VALUES (2, 1, 1, 1); INSERT INTO {LONG[:62]} VALUES (2, 2, 0, 1); INSERT INTO {LONG[:62]} VALUES (2, 2, 1, 0);""", {}),
     "texts that look like numbers": (
         """CREATE TABLE t (a INT, b VARCHAR(3)); INSERT INTO t VALUES ('x', 'y'); INSERT INTO t VALUES (1, 2, 3); SELECT a FROM t WHERE b = 5; INSERT INTO t VALUES ('7', 'y');""", {5: "!WrongShape here"}),
     "blanks that are cut": (

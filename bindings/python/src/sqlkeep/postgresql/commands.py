@@ -8,6 +8,7 @@ from pathlib import Path
 from typing import Any, Sequence
 
 from ..errors import ProgrammingError
+from ..shell.show import visible
 from .compare import SCHEMA, Comparison, Difference, SchemaInUse, ServerGone, compared
 from .translate import psql_script, translated
 
@@ -35,10 +36,10 @@ def script_of(file: str) -> str:
     return (sys.stdin.buffer.read() if file == "-" else Path(file).read_bytes()).decode()
 
 
-def write(script: str) -> None:
-    """Writes a script as UTF-8, whatever the locale is."""
+def write(text: str) -> None:
+    """Writes a text as UTF-8, whatever the locale is."""
     sys.stdout.flush()
-    sys.stdout.buffer.write(script.encode())
+    sys.stdout.buffer.write(text.encode())
     sys.stdout.buffer.flush()
 
 
@@ -75,7 +76,7 @@ def compare(given: argparse.Namespace, script: str) -> int:
     except (SchemaInUse, ServerGone, module.Error) as error:
         print(f"sqlkeep: {str(error).strip()}", file=sys.stderr)
         return 2
-    sys.stdout.write(told(found))
+    write("\n".join(map(visible, told(found).split("\n"))))
     return 0 if found.is_same else 1
 
 

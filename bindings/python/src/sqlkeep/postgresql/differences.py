@@ -16,7 +16,7 @@ from .orders import of_level
 from .quoting import plain_name
 from .violated import violated
 
-__all__ = ["cut", "of_names", "of_own_names", "of_statement"]
+__all__ = ["of_own_names", "of_statement"]
 
 # Names are cut behind so many bytes there.
 LONGEST = 63
@@ -222,11 +222,6 @@ def of_long_keys(statement: Statement) -> Iterator[str]:
 def of_names(names: Iterable[str]) -> list[str]:
     """Names that PostgreSQL cuts."""
     return [f"PostgreSQL cuts {name[:20]}.. behind {LONGEST} characters" for name in names if len(name) > LONGEST]
-
-
-def cut(name: str) -> str:
-    """A name as PostgreSQL keeps it."""
-    return name[:LONGEST]
 
 
 def of_own_names(names: Iterable[str]) -> list[str]:

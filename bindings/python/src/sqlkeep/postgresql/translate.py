@@ -21,6 +21,9 @@ from .tables import KeyColumns
 
 __all__ = ["Translation", "Translator", "psql_script", "translated"]
 
+# PostgreSQL cuts names behind 63 characters; `_holds` stands behind that of a constraint.
+LONGEST_CONSTRAINT = 57
+
 
 @dataclass
 class Translation:
@@ -38,10 +41,11 @@ class Translation:
 
 @dataclass
 class Whole:
-    """What is known of a script when it has run: the keys that foreign keys refer to, and all tables."""
+    """What is known of a script when it has run: the keys that foreign keys refer to, the tables, and the constraints, by their names there."""
 
     referenced: set[KeyColumns]
     tables: set[str]
+    constraints: set[str]
 
 
 def whole_of(parts: list[str]) -> Whole:
@@ -49,7 +53,8 @@ def whole_of(parts: list[str]) -> Whole:
         for part in parts:
             session.execute(part)
         made = session.catalogue
-        return Whole({(each.referenced, frozenset(each.referenced_columns)) for each in made.constraints.values() if each.referenced is not None}, {plain_name(table) for table in made.tables})
+    referenced = {(each.referenced, frozenset(each.referenced_columns)) for each in made.constraints.values() if each.referenced is not None}
+    return Whole(referenced, set(map(plain_name, made.tables)), set(map(plain_name, made.constraints)))
 
 
 class Translator:
@@ -57,8 +62,8 @@ class Translator:
 
     def __init__(self, session: Session, script: str) -> None:
         self.session = session
-        self.parts = session.parts(script)
         refuse_nul(script)
+        self.parts = session.parts(script)
         self._whole = whole_of(self.parts)
         #: The name here of each constraint there.
         self.constraints: dict[str, str] = {}
@@ -112,15 +117,19 @@ class Translator:
             if tables.is_of_column(constraint) or constraint.kind == "PRIMARY KEY":
                 self.filled += [((table, column), made.name) for column in constraint.columns]
             if tables.is_key(constraint) and constraint.there in self._whole.tables:
-                constraint.there = self._free_name(constraint.there)
+                constraint.there = self._free_name(constraint.there + "_key")
                 found.renamed.append(f"{made.name} is {constraint.there} there: an index of PostgreSQL can't have the name of a table")
-            self.constraints[differences.cut(constraint.there)], self._there[made.name] = made.name, constraint.there
+            if len(constraint.there) > LONGEST_CONSTRAINT:
+                constraint.there = self._free_name(constraint.there)
+                found.renamed.append(f"{made.name} is {constraint.there} there: PostgreSQL cuts longer names")
+            self.constraints[constraint.there], self._there[made.name] = made.name, constraint.there
 
-    def _free_name(self, taken: str) -> str:
-        """A name that no table and no constraint has."""
-        name = taken + "_key"
-        while name in self._whole.tables or name.upper() in self.session.catalogue.constraints or name in self.constraints:
-            name += "_key"
+    def _free_name(self, wanted: str) -> str:
+        """A name that no table and no constraint has, of at most as many characters as PostgreSQL keeps with what stands behind it."""
+        name, number = wanted[:LONGEST_CONSTRAINT], 1
+        while name in self._whole.tables | self._whole.constraints or name in self.constraints:
+            number += 1
+            name = f"{wanted[: LONGEST_CONSTRAINT - 5]}_{number}"
         return name
 
     def _change(self, found: Translation, words: list[Token], was_open: bool) -> None:
