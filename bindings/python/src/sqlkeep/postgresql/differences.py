@@ -55,7 +55,8 @@ def of_statement(statement: Statement) -> list[str]:
 def is_concerned(statement: Statement) -> bool:
     """Whether the table of a data statement has a constraint, a trigger or a foreign key that refers to it."""
     table = statement.words[EVENTS[statement.words[0].word]].word
-    return any(table in (each.table, each.referenced) for each in statement.catalogue.constraints.values()) or any(each.table == table for each in statement.triggers.values())
+    of_constraints = {name for each in statement.catalogue.constraints.values() for name in (each.table, each.referenced)}
+    return table in of_constraints or any(each.table == table for each in statement.triggers.values())
 
 
 def by_cause(statement: Statement) -> Iterator[str]:
@@ -65,14 +66,13 @@ def by_cause(statement: Statement) -> Iterator[str]:
         return
     if error.cause in ALWAYS:
         yield ALWAYS[error.cause]
-    told: dict[int, Callable[[Statement, DatabaseError], Iterator[str]]] = {1: of_unknown, 2: of_duplicate, 4: of_open, 5: of_no_transaction, 8: of_not_deferrable, 9: of_shape, 10: of_range, 11: of_length, 12: of_violations, 13: of_violations, 19: of_violations}
-    if error.cause in told:
-        yield from told[error.cause](statement, error)
+    if error.cause in TOLD:
+        yield from TOLD[error.cause](statement, error)
 
 
 def of_unknown(statement: Statement, error: DatabaseError) -> Iterator[str]:
     fault = error.account.name if error.account is not None else None
-    if statement.words[1].word == "TRIGGER" and statement.words[0].word == "CREATE" and not (fault is not None and fault.kind == "trigger"):
+    if [word.word for word in statement.words[:2]] == ["CREATE", "TRIGGER"] and (fault is None or fault.kind != "trigger"):
         yield "Unknown here: PostgreSQL looks for the names of a body when the trigger runs"
 
 
@@ -173,7 +173,7 @@ def order_there(statement: Statement, name: str) -> tuple[int, str]:
     then the one that was made first."""
     made, changes = statement.catalogue.constraints[name], statement.account.changes()
     place = f"{list(statement.catalogue.constraints).index(name):09}"
-    nulls = null_places(statement, made)
+    nulls = statement.nulls(made, changes)
     if nulls and (made.kind == "PRIMARY KEY" or name in statement.filled):
         return 0, f"{nulls[0]:09}"
     if made.kind in ("CHECK", "NOT NULL"):
@@ -181,12 +181,6 @@ def order_there(statement: Statement, name: str) -> tuple[int, str]:
     if made.kind == "FOREIGN KEY":
         return (4 if statement.lost(made, changes) else 5), place
     return (2 if statement.is_at_once(name) else 3 if made.kind == "PRIMARY KEY" else 6), "" if made.kind == "PRIMARY KEY" else place
-
-
-def null_places(statement: Statement, constraint: Constraint) -> list[int]:
-    """The columns of a constraint in which a changed row has NULL."""
-    rows = [each.after for each in statement.account.changes() if each.table == constraint.table and each.after is not None]
-    return sorted(at for at in statement.places(constraint.table, constraint.columns) if any(row[at] is None for row in rows))
 
 
 def is_out_of_range(violation: Violation) -> bool:
@@ -197,8 +191,9 @@ def is_out_of_range(violation: Violation) -> bool:
 def of_constants(statement: Statement) -> Iterator[str]:
     """PostgreSQL reckons with numbers when it plans a query, even if no row is looked at."""
     words = statement.words
-    triples = [(before, word.word, behind) for before, word, behind in zip(words, words[1:], words[2:]) if before.kind == behind.kind == "number" and word.word in ARITHMETIC]
-    if any(word.word in ("WHERE", "SELECT") for word in words) and any(is_beyond(int(before.word), sign, int(behind.word)) for before, sign, behind in triples):
+    triples = [each for each in zip(words, words[1:], words[2:]) if each[0].kind == each[2].kind == "number" and each[1].word in ARITHMETIC]
+    is_query = any(word.word in ("WHERE", "SELECT") for word in words)
+    if is_query and any(is_beyond(int(first.word), sign.word, int(second.word)) for first, sign, second in triples):
         yield "PostgreSQL reckons with numbers even if no row is looked at"
 
 
@@ -226,4 +221,11 @@ def of_names(names: Iterable[str]) -> list[str]:
 
 def of_own_names(names: Iterable[str]) -> list[str]:
     """Names that are PostgreSQL's own, and are written in capitals."""
-    return [f"{name} is in capitals there, since PostgreSQL has a {name.lower()} of its own" for name in names if plain_name(name) == name and name != name.lower()]
+    own = [name for name in names if plain_name(name) == name and name != name.lower()]
+    return [f"{name} is in capitals there, since PostgreSQL has a {name.lower()} of its own" for name in own]
+
+
+TOLD: dict[int, Callable[[Statement, DatabaseError], Iterator[str]]] = {
+    1: of_unknown, 2: of_duplicate, 4: of_open, 5: of_no_transaction, 8: of_not_deferrable, 9: of_shape, 10: of_range, 11: of_length,
+    12: of_violations, 13: of_violations, 19: of_violations,
+}

@@ -53,10 +53,19 @@ class Statement:
     def is_at_once(self, name: str, changes: Iterable[Change] = ()) -> bool:
         """Whether PostgreSQL tests a constraint as soon as a row is stored, also the nulls of a PRIMARY KEY that can wait."""
         constraint = self.catalogue.constraints[name]
-        if constraint.kind == "PRIMARY KEY" and any(each.table == constraint.table and None in values_at(each.after, self.places(each.table, constraint.columns)) for each in changes if each.after is not None):
+        if constraint.kind == "PRIMARY KEY" and self.nulls(constraint, changes):
             return True
-        is_key = constraint.kind in ("UNIQUE", "PRIMARY KEY")
-        return not constraint.deferrable and constraint.kind != "FOREIGN KEY" and (not is_key or (constraint.table, frozenset(constraint.columns)) in self.referenced)
+        is_late_key = constraint.kind in ("UNIQUE", "PRIMARY KEY") and (constraint.table, frozenset(constraint.columns)) not in self.referenced
+        return not constraint.deferrable and constraint.kind != "FOREIGN KEY" and not is_late_key
+
+    def nulls(self, constraint: Constraint, changes: Iterable[Change]) -> list[int]:
+        """The places of a constraint's columns in which a changed row has NULL."""
+        rows = [each.after for each in changes if each.table == constraint.table and each.after is not None]
+        return sorted(at for at in self.places(constraint.table, constraint.columns) if any(row[at] is None for row in rows))
+
+    def running(self, time: str, event: str, table: str, for_each_row: bool) -> list[Trigger]:
+        """The triggers of a table for this, in creation order."""
+        return [each for each in self.triggers.values() if (each.time, each.event, each.table, each.for_each_row) == (time, event, table, for_each_row)]
 
     def keys(self, table: str) -> list[Constraint]:
         """The foreign keys that refer to a table."""

@@ -5,6 +5,7 @@ from typing import Iterator
 
 from ..account import Action, Change, Skipped
 from ..account import Trigger as Ran
+from ..catalogue import Constraint
 from .levels import EVENTS, Asked, Level, Statement, values_at
 from .reading import Trigger
 from .violated import violated
@@ -18,13 +19,16 @@ ONE_ROW = "several foreign keys act on one row: PostgreSQL takes them one after 
 
 def of_level(statement: Statement, level: Level) -> Iterator[str]:
     """What comes otherwise in PostgreSQL."""
-    for told in (keys_row_by_row, row_triggers, statement_triggers, changed_rows_seen, followed, followed_in_vain, followed_late, restricted, one_row_twice, changed_further, no_action, default_lost, null_in_late_key, tested_after_trigger, signal_first, column_lists, hidden_table):
+    for told in TOLD:
         yield from told(statement, level)
 
 
 def defined(statement: Statement, level: Level, time: str) -> list[tuple[Trigger, list[Asked]]]:
     """The triggers of this time that were asked, with what the account tells of each, in creation order."""
-    return [(trigger, [each for each in level.asked if each.name == name]) for name, trigger in statement.triggers.items() if trigger.time == time and any(each.name == name for each in level.asked)]
+    asked: dict[str, list[Asked]] = {}
+    for each in level.asked:
+        asked.setdefault(each.name, []).append(each)
+    return [(trigger, asked[name]) for name, trigger in statement.triggers.items() if trigger.time == time and name in asked]
 
 
 def is_acted(asked: list[Asked]) -> bool:
@@ -38,31 +42,37 @@ def keys_row_by_row(statement: Statement, level: Level) -> Iterator[str]:
         if key.kind not in ("UNIQUE", "PRIMARY KEY") or (key.table, frozenset(key.columns)) not in statement.referenced:
             continue
         places = statement.places(key.table, key.columns)
-        moved = [(values_at(each.before, places), values_at(each.after, places)) for each in level.rows(key.table, "UPDATE") if each.before is not None and each.after is not None]
-        before = {old for old, new in moved if old != new} | {values_at(each.before, places) for each in level.rows(key.table, "DELETE") if each.before is not None}
-        if any(new in before and new != old and (None not in new or key.nulls_not_distinct) for old, new in moved):
+        rows = [each for each in level.changes if each.table == key.table and each.before is not None]
+        moved = [(values_at(each.before or (), places), None if each.after is None else values_at(each.after, places)) for each in rows]
+        gone = {old for old, new in moved if old != new}
+        if any(new in gone and new != old and (None not in new or key.nulls_not_distinct) for old, new in moved if new is not None):
             yield "PostgreSQL tests a key that foreign keys refer to row by row; here when the statement ends"
             return
 
 
 def row_triggers(statement: Statement, level: Level) -> Iterator[str]:
+    """Row triggers of one time, if one of them runs for several rows."""
+    names = {each.name for each in level.asked}
     for time in ("BEFORE", "AFTER"):
         found = [(trigger, asked) for trigger, asked in defined(statement, level, time) if trigger.for_each_row]
         for trigger, asked in found:
-            others = [other for other in statement.triggers.values() if other is not trigger and (other.time, other.event, other.table, other.for_each_row) == (time, trigger.event, trigger.table, True)]
-            is_told = level.is_cut or (time == "AFTER" and any(other.name in {each.name for each in level.asked} and meet(statement, trigger, other) for other in others))
-            if len(asked) > 1 and others and is_told and any(is_acted(each) for _, each in found):
+            others = [other for other in statement.running(time, trigger.event, trigger.table, True) if other is not trigger]
+            do_meet = time == "AFTER" and any(other.name in names and meet(statement, trigger, other) for other in others)
+            if len(asked) > 1 and others and (level.is_cut or do_meet) and any(is_acted(each) for _, each in found):
                 yield "several row triggers run at one time: here one after another over all rows, and in PostgreSQL all of them row by row"
                 return
 
 
 def statement_triggers(statement: Statement, level: Level) -> Iterator[str]:
+    """A statement trigger that was made before a row trigger."""
     order = list(statement.triggers)
     found = defined(statement, level, "AFTER")
     for trigger, asked in found:
-        later = [other for name, other in statement.triggers.items() if other.for_each_row and (other.time, other.event, other.table) == ("AFTER", trigger.event, trigger.table) and order.index(name) > order.index(trigger.name)]
+        rows = statement.running("AFTER", trigger.event, trigger.table, True)
+        later = [other for other in rows if order.index(other.name) > order.index(trigger.name)]
         is_any = is_acted(asked) or any(is_acted(each) for other, each in found if other in later)
-        if not trigger.for_each_row and is_any and level.rows(trigger.table, trigger.event) and (level.is_cut and later or any(meet(statement, trigger, other) for other in later)):
+        do_meet = (level.is_cut and later) or any(meet(statement, trigger, other) for other in later)
+        if not trigger.for_each_row and is_any and do_meet and level.rows(trigger.table, trigger.event):
             yield "PostgreSQL runs the row triggers of a table before its statement triggers; here in creation order"
             return
 
@@ -108,14 +118,18 @@ def followed(statement: Statement, level: Level) -> Iterator[str]:
         yield "PostgreSQL follows foreign keys row by row, and runs the triggers of what follows at once; here AFTER triggers run when all has followed"
 
 
+def action_of(key: Constraint, change: Change) -> str | None:
+    """What a foreign key does when a change takes its key away."""
+    return key.on_delete if change.kind == "delete" else key.on_update
+
+
 def followed_in_vain(statement: Statement, level: Level) -> Iterator[str]:
     """A statement trigger of a table that a foreign key follows: BEFORE, or AFTER if no row is found."""
     for key in statement.catalogue.constraints.values():
-        for event, action in (("DELETE", key.on_delete), ("UPDATE", key.on_update)):
-            lost = [each for each in statement.lost(key, level.changes) if each.kind == event.lower()] if action in ACTING else []
-            there = "DELETE" if (event, action) == ("DELETE", "CASCADE") else "UPDATE"
-            running = [each for each in statement.triggers.values() if (each.table, each.event, each.for_each_row) == (key.table, there, False)]
-            if lost and any(each.time == "BEFORE" or not (each.tables or level.rows(key.table, there)) for each in running):
+        for change in statement.lost(key, level.changes):
+            there = "DELETE" if (change.kind, key.on_delete) == ("delete", "CASCADE") else "UPDATE"
+            in_vain = [each for each in statement.running("AFTER", there, key.table, False) if not each.tables and not level.rows(key.table, there)]
+            if action_of(key, change) in ACTING and (in_vain or statement.running("BEFORE", there, key.table, False)):
                 yield "PostgreSQL runs a statement trigger for what a foreign key does, even if it finds no row; here an AFTER trigger if rows change"
                 return
 
@@ -123,11 +137,14 @@ def followed_in_vain(statement: Statement, level: Level) -> Iterator[str]:
 def followed_late(statement: Statement, level: Level) -> Iterator[str]:
     """A row that comes to refer to a key in the statement that takes the key away."""
     for key in statement.catalogue.constraints.values():
-        lost = statement.lost(key, level.changes)
-        refers, to = (statement.places(key.table, key.columns), statement.places(key.referenced or "", key.referenced_columns)) if lost else ([], [])
-        gone = {values_at(each.before, to) for each in lost if each.before is not None and (key.on_delete if each.kind == "delete" else key.on_update) != "NO ACTION"}
-        rows = [each for each in level.changes if each.table == key.table and each.after is not None]
-        if any(values_at(each.after, refers) in gone and (each.before is None or values_at(each.before, refers) != values_at(each.after, refers)) for each in rows if each.after is not None):
+        lost = [each for each in statement.lost(key, level.changes) if action_of(key, each) != "NO ACTION"]
+        if not lost or key.referenced is None:
+            continue
+        refers, to = statement.places(key.table, key.columns), statement.places(key.referenced, key.referenced_columns)
+        gone = {values_at(each.before, to) for each in lost if each.before is not None}
+        rows = [(each.before, each.after) for each in level.changes if each.table == key.table and each.after is not None]
+        come = [values_at(after, refers) for before, after in rows if after is not None and (before is None or values_at(before, refers) != values_at(after, refers))]
+        if gone & set(come):
             yield f"PostgreSQL also follows {key.name} to rows that come to refer to the key in the same statement; here to those that referred to it before"
             return
 
@@ -199,7 +216,7 @@ def no_action(statement: Statement, level: Level) -> Iterator[str]:
     """A foreign key without an action, beside one that acts and mends what it would refuse."""
     acted = {each.table for each in level.actions}
     for key in statement.catalogue.constraints.values():
-        if key.referenced is not None and key.table in acted and not key.deferred and any("NO ACTION" == (key.on_delete if each.kind == "delete" else key.on_update) for each in statement.lost(key, level.changes)):
+        if key.table in acted and not key.deferred and any(action_of(key, each) == "NO ACTION" for each in statement.lost(key, level.changes)):
             yield f"PostgreSQL tests {key.name} row by row, beside what other foreign keys do; here when all has followed"
             return
 
@@ -209,18 +226,18 @@ def default_lost(statement: Statement, level: Level) -> Iterator[str]:
     for action in level.actions:
         key = statement.catalogue.constraints[action.constraint]
         places = statement.places(key.table, key.columns)
-        rows = [each for each in level.rows(key.table, "UPDATE") if each.row == action.row and each.before and each.after]
-        if action.action == "SET DEFAULT" and key.deferred and any(each.before and each.after and values_at(each.before, places) == values_at(each.after, places) for each in rows):
+        rows = [each for each in level.rows(key.table, "UPDATE") if each.row == action.row]
+        is_kept = any(values_at(each.before or (), places) == values_at(each.after or (), places) for each in rows)
+        if action.action == "SET DEFAULT" and key.deferred and is_kept:
             yield f"PostgreSQL tests {key.name} at once if its default is the key that goes, also if it is deferred"
             return
 
 
 def null_in_late_key(statement: Statement, level: Level) -> Iterator[str]:
-    for key in statement.catalogue.constraints.values():
-        places = statement.places(key.table, key.columns) if key.kind == "PRIMARY KEY" and key.deferred else []
-        if places and any(each.after is not None and each.table == key.table and None in values_at(each.after, places) for each in level.changes):
-            yield "PostgreSQL tests the nulls of a PRIMARY KEY at once, also if the key is deferred"
-            return
+    """A null in a PRIMARY KEY that is deferred."""
+    late = [each for each in statement.catalogue.constraints.values() if each.kind == "PRIMARY KEY" and each.deferred]
+    if any(statement.nulls(each, level.changes) for each in late):
+        yield "PostgreSQL tests the nulls of a PRIMARY KEY at once, also if the key is deferred"
 
 
 def tested_after_trigger(statement: Statement, level: Level) -> Iterator[str]:
@@ -262,3 +279,9 @@ def hidden_table(statement: Statement, level: Level) -> Iterator[str]:
     ran = [statement.triggers[each.name] for each in level.asked if not isinstance(each, Skipped) and each.name in statement.triggers]
     if any(written_by(trigger) & set(trigger.tables) for trigger in ran):
         yield "a transition table has the name of a table, which PostgreSQL lets no statement of the body change"
+
+
+TOLD = (
+    keys_row_by_row, row_triggers, statement_triggers, changed_rows_seen, followed, followed_in_vain, followed_late, restricted, one_row_twice,
+    changed_further, no_action, default_lost, null_in_late_key, tested_after_trigger, signal_first, column_lists, hidden_table,
+)
