@@ -10,7 +10,7 @@ from pathlib import Path
 
 PIECES = (
     "$$", "$", "$a$", "$sk$", "$sk0$", "$tag$", "$body$", "body", "$body", "body$", "$body2$", "\\", "\\\\", "\\'", "\\!", "\\q", "\\.", "\\g", "\\gexec", "\\i /etc/passwd", "\r", "\n", "\r\n",
-    "'", "''", '"', ":'a'", ":a", ':"a"', "::", "%", "%s", "--", "/*", "*/", "\ufeff", ";", "(", ")", "E'", "U&'", "{}", "{", "\x01", "\x1b[2J", "\x7f", "\u2028", "\x85", "\x1a", "é", "\U0001f600",
+    "'", "''", '"', ":'a'", ":a", ':"a"', "::", "%", "%s", "--", "/*", "*/", "\ufeff", ";", "(", ")", "E'", "U&'", "{}", "{", "\x01", "\x1b[2J", "\x7f", "\u2028", "\x85", "\x1a", "é", "あ", "ソ", "\U0001f600",
     "\n\\! touch pwned\n", "\n\\q\n", "\n\\.\n", "\n; CREATE TABLE injected (a int);\n", "$$; CREATE TABLE injected (a int); SELECT $$", "$body$; CREATE TABLE injected (a int); SELECT $body$",
     "'); CREATE TABLE injected (a int); --", "\\'); CREATE TABLE injected (a int); --", " ", "END", "COPY t FROM stdin;",
 )
@@ -125,7 +125,8 @@ def script_for_psql(script, folder, package):
 
 
 def run(server, folder, script, theirs, setting):
-    """Runs a script through psql in a schema of its own; gives what is wrong. The sessions begin with this setting for backslashes."""
+    """Runs a script through psql in a schema of its own; gives what is wrong. The session begins with this setting for backslashes, and with
+    an encoding in which a byte of a letter may be taken for the first half of another one if it is off."""
     import psycopg2  # pylint: disable=import-outside-toplevel,import-error
     from sqlkeep.session import Session  # pylint: disable=import-outside-toplevel,import-error
     schema = f"hostile_{setting}"
@@ -134,7 +135,8 @@ def run(server, folder, script, theirs, setting):
     cursor = there.cursor()
     cursor.execute(f"DROP SCHEMA IF EXISTS {schema} CASCADE; CREATE SCHEMA {schema}; SET search_path = {schema}")
     before = sorted(path.name for path in Path(folder).iterdir())
-    server.psql(theirs, folder, f"-c search_path={schema} -c standard_conforming_strings={setting} -c client_min_messages=error")
+    encoding = {"on": "UTF8", "off": "SJIS"}[setting]
+    server.psql(theirs, folder, f"-c search_path={schema} -c standard_conforming_strings={setting} -c client_min_messages=error", encoding)
     with Session() as session:
         for part in session.parts(script):
             session.execute(part)

@@ -47,7 +47,8 @@ class Server:
     def __exit__(self, *_):
         self._run("pg_ctl", "-D", os.path.join(self.folder, "data"), "-m", "immediate", "stop")
 
-    def psql(self, script, folder, settings):
-        """Runs a script through psql, as superuser in this folder, with settings as PGOPTIONS has them. It reads no .psqlrc."""
+    def psql(self, script, folder, settings, encoding):
+        """Runs a script through psql, as superuser in this folder, with settings as PGOPTIONS has them and an encoding to begin with. It reads
+        no .psqlrc."""
         command = [os.path.join(self._programs, "psql"), "-q", "-X", "-h", self.folder, "-U", "tester", "-d", "postgres", "-f", str(script)]
-        return subprocess.run(command, cwd=folder, stdout=subprocess.PIPE, stderr=subprocess.STDOUT, env={**os.environ, "PGOPTIONS": settings}, check=False).stdout
+        return subprocess.run(command, cwd=folder, stdout=subprocess.PIPE, stderr=subprocess.STDOUT, env={**os.environ, "PGOPTIONS": settings, "PGCLIENTENCODING": encoding}, check=False).stdout

@@ -203,12 +203,13 @@ def translated(script: str, depth: int = 16, changes: int = 65_536) -> list[Tran
         return list(Translator(session, script).steps())
 
 
-# The settings say how psql and PostgreSQL read the rest of the file.
-HEADER = sql("""SET standard_conforming_strings = on;
-SET client_encoding = 'UTF8';
--- Made by sqlkeep for psql. A refused statement leaves the transaction as it was.
+# The settings say how psql and PostgreSQL read the rest of the file, so no text stands before them.
+HEADER = sql("""-- Made by sqlkeep for psql. A refused statement leaves the transaction as it was.
+\\set AUTOCOMMIT on
 \\set ON_ERROR_ROLLBACK on
 \\set ON_ERROR_STOP off
+SET standard_conforming_strings = on;
+SET client_encoding = 'UTF8';
 """)
 
 
