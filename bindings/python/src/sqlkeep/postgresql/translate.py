@@ -188,7 +188,7 @@ class Translator:
 
 def refuse_nul(script: str) -> None:
     """PostgreSQL has no text with U+0000, and psql reads no further in a line that has one."""
-    at = next((each.start + each.word.index("\0") for each in tokens(script) if "\0" in each.word), None)
+    at = next((each.start + each.word.index("\0") for each in tokens(script) if each.kind == "text" and "\0" in each.word), None)
     if at is not None:
         place = place_of(script, at)
         error = ProgrammingError(f"line {place.line}, column {place.column}: PostgreSQL has no text with the character U+0000")

@@ -34,9 +34,16 @@ def constraint_text(constraint: Constraint) -> str:
     return f"{constraint.kind}{' NULLS NOT DISTINCT' if constraint.nulls_not_distinct else ''} {listed}"
 
 
-def changed(session: Session, tables: Iterable[str], changes: Iterable[Change]) -> dict[str, Rows]:
-    """The rows of tables once these changes are made."""
-    rows: dict[str, Rows] = {name: Counter(session.execute(f"SELECT * FROM {name}").rows or []) for name in tables}
+def changed(session: Session, tables: Iterable[str], changes: Iterable[Change]) -> dict[str, Rows] | None:
+    """The rows of tables once these changes are made; None if there are too many."""
+    session.explain = False
+    counts = [row[0] for name in tables for row in session.execute(f"SELECT COUNT(*) FROM {name}").rows or []]
+    count = sum(each for each in counts if isinstance(each, int))
+    found = {name: session.execute(f"SELECT * FROM {name}").rows or [] for name in tables} if count <= MOST_ROWS else None
+    session.explain = True
+    if found is None:
+        return None
+    rows: dict[str, Rows] = {name: Counter(each) for name, each in found.items()}
     for change in changes:
         if change.before is not None:
             rows[change.table][change.before] -= 1
@@ -60,10 +67,8 @@ def violated(session: Session, catalogue: Catalogue, changes: Sequence[Change]) 
     of = {each.table for each in changes}
     asked = [each for each in catalogue.constraints.values() if each.table in of or each.referenced in of]
     concerned = of | {each.table for each in asked} | {each.referenced for each in asked if each.referenced is not None}
-    session.explain = False
     rows = changed(session, concerned, changes)
-    session.explain = True
-    if sum(sum(each.values()) for each in rows.values()) > MOST_ROWS:
+    if rows is None:
         return None
     keys = [each for each in catalogue.constraints.values() if each.kind in ("UNIQUE", "PRIMARY KEY") and each.table in concerned and each not in asked]
     with Session() as other:
