@@ -79,7 +79,7 @@ def main():
     parser.add_argument("--only")
     parser.add_argument("--tell", action="store_true")
     parser.add_argument("--save")
-    parser.add_argument("--seed", type=int, default=1)
+    parser.add_argument("--seed", type=int, default=10_001)
     parser.add_argument("--count", type=int, default=40)
     words = parser.parse_args()
     wanted = missing()

@@ -40,7 +40,7 @@ class Server:
             os.chown(self.folder, pwd.getpwnam("postgres").pw_uid, pwd.getpwnam("postgres").pw_gid)
         data = os.path.join(self.folder, "data")
         self._run("initdb", "-D", data, "-U", "tester", "-A", "trust", "-E", "UTF8", "--no-locale", "--no-sync")
-        options = f"-c listen_addresses='' -c unix_socket_directories={self.folder} -c fsync=off -c max_stack_depth=512kB -c statement_timeout=10s"
+        options = f"-c listen_addresses='' -c unix_socket_directories={self.folder} -c fsync=off -c max_stack_depth=512kB -c statement_timeout=60s"
         self._run("pg_ctl", "-D", data, "-w", "-l", os.path.join(self.folder, "log"), "-o", options, "start")
         return self
 
