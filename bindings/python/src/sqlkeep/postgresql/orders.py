@@ -241,11 +241,12 @@ def null_in_late_key(statement: Statement, level: Level) -> Iterator[str]:
 
 
 def tested_after_trigger(statement: Statement, level: Level) -> Iterator[str]:
-    """A constraint that PostgreSQL tests row by row when the statement ends, with the AFTER triggers of each row in between."""
+    """A constraint that PostgreSQL tests row by row when the statement ends, with the AFTER triggers of each row in between, and all of them
+    before the rows that foreign keys changed."""
     violation = statement.violation
     if not level.is_cut or statement.cause != VIOLATION or violation is None or statement.is_at_once(violation.constraint, level.changes):
         return
-    running = {(each.table, each.event.lower()) for each in statement.triggers.values() if each.time == "AFTER" and each.for_each_row}
+    running = {(each.table, each.event.lower()) for each in statement.triggers.values() if each.time == "AFTER" and (each.for_each_row or level.actions)}
     found = [at for at, each in enumerate(level.changes) if each.row in (violation.row, violation.other_row)]
     is_first = found[-1:] == [0] and not level.actions
     if len(level.changes) > 1 and not is_first and any((each.table, each.kind) in running for each in level.changes):
