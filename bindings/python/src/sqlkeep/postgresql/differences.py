@@ -5,7 +5,7 @@ A note stands at a statement only if what the statement did here can come out ot
 from __future__ import annotations
 
 import re
-from typing import Callable, Iterable, Iterator
+from typing import Callable, Iterable, Iterator, Sequence
 
 from ..account import Change, Skipped, Violation
 from ..catalogue import Constraint
@@ -23,6 +23,8 @@ LONGEST = 63
 # No entry of an index is longer.
 LONGEST_KEY = 2_704
 HEAD_OF_KEY = 16
+# Of so many inserted rows it is asked which one PostgreSQL refuses.
+MOST_STEPS = 12
 ALWAYS = {
     3: "SchemaFault here: PostgreSQL allows more definitions",
     6: "ActiveTransaction here: PostgreSQL only warns",
@@ -158,20 +160,31 @@ def of_violations(statement: Statement, error: DatabaseError) -> Iterator[str]:
 
 def first_there(statement: Statement, names: set[str]) -> str | None:
     """The constraint that PostgreSQL names if these are violated; None if that can't be told."""
-    events = statement.account.events
+    events, changes = statement.account.events, statement.account.changes()
     if statement.words[0].word not in EVENTS or statement.cause != VIOLATION or not all(isinstance(each, (Change, Skipped, Violation)) for each in events):
         return None
-    stored = {each for each in names if statement.is_at_once(each, statement.account.changes())}
-    candidates = sorted(stored or names, key=lambda each: order_there(statement, each))
-    is_one_row = sum(isinstance(each, Change) for each in events) == 1
-    return candidates[0] if is_one_row or len(candidates) == 1 else None
+    stored = {each for each in names if statement.is_at_once(each, changes)}
+    if stored and len(changes) > 1 and [word.word for word in statement.words if word.word in ("INSERT", "SELECT")] == ["INSERT"]:
+        return first_stored(statement, changes)
+    candidates = sorted(stored or names, key=lambda each: order_there(statement, each, changes))
+    return candidates[0] if len(changes) == 1 or len(candidates) == 1 else None
 
 
-def order_there(statement: Statement, name: str) -> tuple[int, str]:
+def first_stored(statement: Statement, changes: Sequence[Change]) -> str | None:
+    """The constraint that PostgreSQL names when it stores inserted rows one after another; None if there are too many to ask for each."""
+    for at in range(1, len(changes) + 1) if len(changes) <= MOST_STEPS else ():
+        row = changes[at - 1 : at]
+        found = [each for each in violated(statement.session, statement.catalogue, changes[:at]) or () if statement.is_at_once(each, row)]
+        if found:
+            return min(found, key=lambda each: order_there(statement, each, row))  # pylint: disable=cell-var-from-loop
+    return None
+
+
+def order_there(statement: Statement, name: str, changes: Sequence[Change]) -> tuple[int, str]:
     """Where PostgreSQL tests a constraint of a row: nulls by column, CHECK by name, keys that can't wait; then by the names of its triggers a
     PRIMARY KEY, foreign keys whose key is gone, other foreign keys, UNIQUE and what can wait. Of one kind a PRIMARY KEY comes first, and
     then the one that was made first."""
-    made, changes = statement.catalogue.constraints[name], statement.account.changes()
+    made = statement.catalogue.constraints[name]
     place = f"{list(statement.catalogue.constraints).index(name):09}"
     nulls = statement.nulls(made, changes)
     if nulls and (made.kind == "PRIMARY KEY" or name in statement.filled):
