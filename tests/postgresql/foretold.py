@@ -126,11 +126,17 @@ CASES = {
 LITERALS = ("CREATE TABLE u (a INT, CHECK ('a' < 'B' OR a = 1)); INSERT INTO u VALUES (1); INSERT INTO u VALUES (2); SELECT a FROM u WHERE ('a') > ('B');", {})
 
 
-def judged(script, expected, dsn):
+# A script that refers to a key only if its budget is three.
+LIMITED = (
+    """CREATE TABLE s (a INT PRIMARY KEY); CREATE TABLE t (a INT); INSERT INTO t VALUES (1), (2), (3);
+    ALTER TABLE t ADD CONSTRAINT f FOREIGN KEY (a) REFERENCES s (a);""", {3: "!TooManyChanges here"})
+
+
+def judged(script, expected, dsn, changes=65_536):
     """What is wrong with the answers and the notes of a script."""
     import psycopg2  # pylint: disable=import-outside-toplevel,import-error
     from sqlkeep.postgresql import commands, compared  # pylint: disable=import-outside-toplevel,import-error
-    found = compared(script, lambda: psycopg2.connect(dsn), (psycopg2.Error,))
+    found = compared(script, lambda: psycopg2.connect(dsn), (psycopg2.Error,), changes=changes)
     differ = {id(each.translation) for each in found.differences}
     notes = {at: each for at, each in enumerate(found.translations, 1) if each.differs or id(each) in differ}
     right = notes.keys() == expected.keys() and all(any(note.startswith(expected[at].lstrip("!")) for note in each.differs) for at, each in notes.items())
@@ -158,5 +164,6 @@ def results(dsn, package):
     there.close()
     found = {name: judged(script, expected, dsn) for name, (script, expected) in CASES.items()}
     found["literals in another collation"] = judged(*LITERALS, dsn.replace("dbname=postgres", "dbname=linguistic"))
+    found["a small budget"] = judged(*LIMITED, dsn, 3)
     found["schemas"] = schemas(dsn, package)
     return found

@@ -241,9 +241,9 @@ def step(translation: Translation, translator: Translator, server: Server, error
 def compared(script: str, connect: Callable[[], Any], errors: tuple[type[Exception], ...], depth: int = 16, changes: int = 65_536, schema: str = SCHEMA) -> Comparison:
     """Runs a script in both. `connect` makes a connection, as `lambda: psycopg2.connect(dsn)` does, and `errors` are the exceptions of a
     refused statement, as `psycopg2.Error`."""
-    with Session(depth, changes, explain=True) as session:
-        translator = Translator(session, script)
-        found = Comparison(total=len(translator.parts))
+    translator = Translator(script, depth, changes)
+    found = Comparison(total=len(translator.parts))
+    with translator.session:
         server = Server(connect, schema)
         try:
             for each in translator.steps():

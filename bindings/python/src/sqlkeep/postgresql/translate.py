@@ -48,8 +48,8 @@ class Whole:
     constraints: set[str]
 
 
-def whole_of(parts: list[str]) -> Whole:
-    with Session() as session:
+def whole_of(parts: list[str], depth: int, changes: int) -> Whole:
+    with Session(depth, changes) as session:
         for part in parts:
             session.execute(part)
         made = session.catalogue
@@ -60,11 +60,11 @@ def whole_of(parts: list[str]) -> Whole:
 class Translator:
     """A script on its way, with what is known of it so far."""
 
-    def __init__(self, session: Session, script: str) -> None:
-        self.session = session
+    def __init__(self, script: str, depth: int, changes: int) -> None:
+        self.session = Session(depth, changes, explain=True)
         refuse_nul(script)
-        self.parts = session.parts(script)
-        self._whole = whole_of(self.parts)
+        self.parts = self.session.parts(script)
+        self._whole = whole_of(self.parts, depth, changes)
         #: The name here of each constraint there.
         self.constraints: dict[str, str] = {}
         #: The columns of a table that PostgreSQL has as NOT NULL, with the constraint here that says so.
@@ -199,8 +199,9 @@ def refuse_nul(script: str) -> None:
 
 def translated(script: str, depth: int = 16, changes: int = 65_536) -> list[Translation]:
     """The statements of a script for PostgreSQL. ProgrammingError if something of the script is no statement, or has U+0000 in a text."""
-    with Session(depth, changes, explain=True) as session:
-        return list(Translator(session, script).steps())
+    translator = Translator(script, depth, changes)
+    with translator.session:
+        return list(translator.steps())
 
 
 # The settings say how psql and PostgreSQL read the rest of the file, so no text stands before them.
