@@ -610,8 +610,9 @@ uint32_t sqlkeep_constraint_column(sqlkeep *handle, size_t at, size_t place, uin
 uint32_t sqlkeep_referenced_column(sqlkeep *handle, size_t at, size_t place, uint32_t *column);
 
 /* The condition of a CHECK as SQL text, with the names of columns folded to upper case and with no parentheses that the grammar doesn't
-   need. Read as a CHECK of its table, the text means just this constraint.
-   SQLKEEP_CLOSED, SQLKEEP_NO_MEMORY; SQLKEEP_NOTHING: there is no constraint at this place, or it is none of CHECK. */
+   need. Read as a CHECK of its table, the text means just this constraint. It was read again, as the WHERE of a SELECT of the table.
+   SQLKEEP_CLOSED, SQLKEEP_NO_MEMORY; SQLKEEP_NOTHING: there is no constraint at this place, or it is none of CHECK;
+   SQLKEEP_NOT_RESTORED: the text isn't read as this condition. */
 uint32_t sqlkeep_constraint_condition(sqlkeep *handle, size_t at, size_t from, uint8_t *buffer, size_t size, size_t *copied);
 
 /* The mode of a constraint now: one of enum sqlkeep_mode. SET CONSTRAINTS sets it; at the end of the transaction it is the initial

@@ -13,7 +13,7 @@ for memory in it, and each time another request is refused. Each run has to be o
   untold   with --explain, the run is as without refusal, but a COMMIT or a ROLLBACK TO that is refused has no account, or the lines of what is pending are
            left out once: what came and what went then is told with the next ones
 
-Words with which no script is run are tried in the same way. 100 random scripts are run too, with ten of their requests refused. Without --all the plain one
+Words with which no transcript is written are tried in the same way. 100 random scripts are run too, with ten of their requests refused. Without --all the plain one
 has five of their requests refused, and 60 of each other script, not all. With --all there are, besides: some scripts more; all these with each statement
 twice, so that the statement that was refused is given once more; with what all tables hold after each statement; with a request and all that come after it
 refused, where several statements may answer 22; and five times as many requests of each random script. The scripts of
@@ -165,10 +165,12 @@ def named(is_all):
 # A run that is refused memory has a folder of its own.
 SCRIPTS_FOLDER = os.path.join(os.path.dirname(os.path.abspath(__file__)), 'scripts')
 
-# Words with which no script is run: such a run ends with the line, or is as without refusal.
+# Words with which no transcript is written: such a run ends with the line, or is as without refusal. A dump is never without what a
+# statement did that was refused memory.
 WORDS = [
     ('the help text', ['--help']), ('a depth that is none', ['--depth', '0']), ('an unknown word', ['--unknown']), ('a file that is not there', ['absent.sql']),
     ('a layout', ['--format', os.path.join(SCRIPTS_FOLDER, 'options_format.sql')]),
+    ('a dump', ['--dump', os.path.join(SCRIPTS_FOLDER, 'options_dump.sql')]),
     ('the layout of a fault', ['--format', os.path.join(SCRIPTS_FOLDER, 'options_format_fault.sql')])]
 
 

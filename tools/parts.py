@@ -36,7 +36,7 @@ UNUSED = {
     "core": r"atomic|chan|rw|cell|sync|time|f32|f64|simd|alloc/|char/(case_)?tables|char/e|convert/try|fmt/(float|radix|fixed|inline|type_impls)"
     r"|int/(bits|checked|mixed|more|strict|i8|i16|isize|u16)|iter/(accum|ends|escapes)|num/(casts|fused|modular|nonzero|rounding|saturating)"
     r"|ops/(arith|bits)|slice/(cuts_mut|exact|splits|sort/(merge|short|stable))",
-    "std": r"fs/(attrs|dir|remove|stat)|io/(buffered|traits)|net|path|process/(command|status|system)|rows|thread|time",
+    "std": r"fs/(dir|remove)|io/(buffered|traits)|net|path|process/(command|status|system)|rows|thread|time",
     "std_alloc": r"borrow",
     "std_collections": r"btree/(cut|merge|owned|rehome|sift)|fmt|index_table|linked_list",
     "indexmap": r"set|map/(entry|traits)",
