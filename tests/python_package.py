@@ -29,7 +29,7 @@ import wheel as made_by
 
 PACKAGE = ROOT / "bindings" / "python"
 PAGES = ROOT / "docs" / "library"
-SUITES = ["test_pep249", "test_sqlite3", "test_errors", "test_transactions", "test_parameters", "test_groups", "test_accounts", "test_session", "test_results", "test_hints", "test_shell", "test_memory"]
+SUITES = ["test_pep249", "test_sqlite3", "test_errors", "test_transactions", "test_parameters", "test_groups", "test_accounts", "test_session", "test_results", "test_hints", "test_shell", "test_memory", "test_reentered"]
 LARGEST = 2_000_000
 BLOCK = re.compile(r"^```(\w+)\n(.*?)^```$", re.M | re.S)
 # Runs the blocks of a page's section one after the other, and writes what each has printed.

@@ -10,7 +10,6 @@ from .answers import CHANGED, DONE, EMPTY, ROWS, columns_of, encoded, error_of, 
 from .catalogue import Catalogue, catalogue_of
 from .errors import DatabaseError
 from .plans import COMMIT, plan_of
-from .text import statements
 from .transcript import Transcript, parse_transcript
 from .values import Value
 
@@ -170,13 +169,14 @@ class Session:
     def parts(self, text: str) -> list[str]:
         """The statements of a text, each with its semicolon; the last may lack it. ProgrammingError where something is left that
         is no statement. Nothing is executed."""
-        count, fault = self._engine.read(encoded(text))
-        if fault is not None:
-            whole, text = count, text + "\n;"
-            count, fault = self._engine.read(encoded(text))
-            if fault is not None:
-                raise fault_in(text[:-2], whole, self._engine, whole + 1)
-        return [text[start:end] for start, end in statements(text)[:count]]
+        data = encoded(text)
+        places, has_fault = self._engine.read(data)
+        if has_fault:
+            whole, data = len(places), data + b"\n;"
+            places, has_fault = self._engine.read(data)
+            if has_fault:
+                raise fault_in(text, whole, self._engine, whole + 1)
+        return [data[start:end].decode() for start, end in places]
 
     def fault_place(self, text: str, whole: int) -> tuple[int, int, str, str]:
         """The line, the column, the words and what is probably the matter where a text is no statement behind so many whole ones."""
