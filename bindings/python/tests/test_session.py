@@ -6,7 +6,7 @@ from pathlib import Path
 
 import sqlkeep
 from sqlkeep import Column, Constraint, StoredRow, TriggerDefinition
-from sqlkeep.text import is_whole, statements
+from sqlkeep.text import spans
 
 ROOT = Path(os.environ.get("SQLKEEP_ROOT", Path(__file__).resolve().parents[3]))
 SCRIPTS = sorted(path for folder in ("examples", "tests/scripts") for path in (ROOT / folder).glob("*.sql"))
@@ -45,7 +45,7 @@ class Scripts(unittest.TestCase):
                 continue
             wanted, text = sqlkeep.parse_transcript(account.read_bytes().decode()), path.read_bytes().decode()
             with self.subTest(path.name), sqlkeep.Session(**words_of(path), explain=True) as session:
-                parts = [text[start:end] for start, end in statements(text)][: len(wanted.answers)]
+                parts = [text[start:end] for start, end in spans(text)][: len(wanted.answers)]
                 outcomes = [session.execute(part) for part in parts]
                 self.assertEqual([str(outcome.account) for outcome in outcomes], [str(answer.account) for answer in wanted.answers])
                 self.assertEqual([outcome.rows for outcome in outcomes], [None if answer.rows is None else list(answer.rows) for answer in wanted.answers])
@@ -63,10 +63,10 @@ class Scripts(unittest.TestCase):
             with self.subTest(path.name), sqlkeep.Session() as session:
                 run = session.run(text) if len(text.encode()) <= 1_048_576 else None
                 if run is not None and run.fault is None:
-                    self.assertEqual(len(statements(text)), run.accepted + run.refused)
-                    self.assertTrue(is_whole(text))
+                    self.assertEqual(len(spans(text)), run.accepted + run.refused)
+                    self.assertEqual(session.parts(text), [text[start:end] for start, end in spans(text)])
                 elif run is not None:
-                    ends = [end for _, end in statements(text) if len(text[:end].encode()) <= run.fault]
+                    ends = [end for _, end in spans(text) if len(text[:end].encode()) <= run.fault]
                     self.assertEqual(len(ends), run.accepted + run.refused)
 
     def test_run_counts(self):

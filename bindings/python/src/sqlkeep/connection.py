@@ -7,7 +7,6 @@ from .answers import CHANGED, DONE, error_of
 from .cursor import Cursor, values_of
 from .groups import row_of_values
 from .plans import COMMIT, DATA, WANTS_TRANSACTION, plan_of, plans
-from .text import statements
 
 TYPE_CHECKING = False
 if TYPE_CHECKING:
@@ -162,8 +161,8 @@ class Connection:
     def iterdump(self) -> Iterator[str]:
         """The statements that make the database again, each with its semicolon, as sqlite3 has them. ProgrammingError where a transaction
         is open."""
-        scripts = self._native().dump()
-        return (text[start:end] for text in scripts for start, end in statements(text))
+        session = self._native()
+        return iter([part for script in session.dump() for part in session.parts(script)])
 
     # ---- for cursors
 

@@ -13,6 +13,7 @@ if TYPE_CHECKING:
 
     from ._engine import Engine
     from .account import Account, Violation
+    from .text import Place
     from .transcript import Refusal
 
 __all__ = [
@@ -37,6 +38,9 @@ class Error(Exception):
     column: int | None = None
     #: The first word of the text that can't stand where it does; empty where the text ends there, or no word begins.
     word: str | None = None
+    # Where the fault is in the text, and what is probably the matter.
+    _at = 0
+    _hint = ""
     _row = 0
     _lines = b""
     # The session that is to tell the lines; None where they were told.
@@ -180,10 +184,10 @@ def rebuilt(kind: type[Error], words: tuple[object, ...], kept: dict[str, Any]) 
     return error
 
 
-def faulted(message: str, line: int, column: int, statement: int | None = None) -> ProgrammingError:
-    """The error of a text that is no statement."""
-    error = ProgrammingError(f"no statement at line {line}, column {column}{message}")
-    error.line, error.column, error.statement = line, column, statement
+def faulted(at: int, reason: str, place: Place, statement: int | None) -> ProgrammingError:
+    """The error of a text that is no statement, from a place of it on; the reason may be empty."""
+    error = ProgrammingError(f"no statement at line {place.line}, column {place.column}{': ' + place.words if place.words else ''}{f' ({reason})' if reason else ''}")
+    error.line, error.column, error.statement, error._at, error._hint = place.line, place.column, statement, at, reason
     return error
 
 

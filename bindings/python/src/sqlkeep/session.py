@@ -6,10 +6,11 @@ from typing import TYPE_CHECKING, Any, NamedTuple, Sequence
 
 from ._engine import Engine
 from .account import Account
-from .answers import CHANGED, DONE, EMPTY, ROWS, columns_of, encoded, error_of, fault_in, fault_place
+from .answers import CHANGED, DONE, EMPTY, ROWS, columns_of, encoded, error_of, fault_in
 from .catalogue import Catalogue, catalogue_of
 from .errors import DatabaseError
 from .plans import COMMIT, plan_of
+from .text import folded
 from .transcript import Transcript, parse_transcript
 from .values import Value
 
@@ -178,10 +179,6 @@ class Session:
                 raise fault_in(text, whole, self._engine, whole + 1)
         return [data[start:end].decode() for start, end in places]
 
-    def fault_place(self, text: str, whole: int) -> tuple[int, int, str, str]:
-        """The line, the column, the words and what is probably the matter where a text is no statement behind so many whole ones."""
-        return fault_place(text, whole, self._engine)
-
     def commit(self) -> Outcome:
         """COMMIT. Where it is refused, the transaction is rolled back."""
         try:
@@ -196,7 +193,7 @@ class Session:
     def rollback_to(self, name: str) -> Outcome:
         """ROLLBACK TO SAVEPOINT."""
         try:
-            return outcome_of(self, self._engine.rollback_to(encoded(name.upper())), "ROLLBACK", 0)
+            return outcome_of(self, self._engine.rollback_to(encoded(folded(name))), "ROLLBACK", 0)
         except DatabaseError as error:
             return refused(error)
 
