@@ -201,6 +201,17 @@ static PyObject *not_one(const sqlkeep_script *script) {
     return Py_BuildValue("IK", why, (unsigned long long)script->statements);
 }
 
+/* Whether the text that was read last, of which no statement is whole, is a semicolon without a statement. */
+static bool is_semicolon(engine *self, const template *given) {
+    sqlkeep_place place = {0, 0, 0, 0};
+    sqlkeep_script rest = {0, 0, 0};
+    if (sqlkeep_fault(&self->own->handle, &place) != SQLKEEP_OK || place.word != place.at || place.end > given->length || given->text[place.at] != ';') {
+        return false;
+    }
+    uint32_t status = sqlkeep_read(&self->own->handle, (const uint8_t *)given->text + place.end, given->length - (size_t)place.end, &rest);
+    return status == SQLKEEP_OK && rest.statements == 0 && rest.has_fault == 0;
+}
+
 /* Reads one statement of a text, which may lack its semicolon, and says which ending it was read with. NULL where there is one,
    or with an exception, and otherwise why it isn't one. */
 static PyObject *read_one(engine *self, const template *given, ending *with) {
@@ -217,6 +228,9 @@ static PyObject *read_one(engine *self, const template *given, ending *with) {
     why = read_with(self, given, *with, &second);
     if (why != NULL || PyErr_Occurred() || is_one(&second)) {
         return why;
+    }
+    if (first.statements == 0 && second.has_fault != 0 && is_semicolon(self, given)) {
+        return Py_BuildValue("IK", ANSWER_EMPTY, 0ULL);
     }
     /* A semicolon that was put behind a text is no fault of its own. */
     return not_one(second.has_fault == 0 ? &second : &first);

@@ -22,6 +22,10 @@ __all__ = [
 ]
 
 
+# What an exception was made of, where `args` says more.
+MADE_OF: Any = BaseException.__dict__["args"]
+
+
 class Warning(Exception):  # pylint: disable=redefined-builtin
     """What PEP 249 calls a warning. Nothing raises it."""
 
@@ -51,10 +55,23 @@ class Error(Exception):
         place = f"statement {self.statement}: " if self.statement is not None else ""
         return place + (super().__str__() if self.cause is None else reason_of(self))
 
+    def __repr__(self) -> str:
+        return f"{type(self).__name__}({', '.join(map(repr, self.args))})"
+
+    @property
+    def args(self) -> tuple[Any, ...]:
+        """What the error was made of; of a refusal its reason."""
+        made_of: tuple[Any, ...] = MADE_OF.__get__(self)
+        return made_of if self.cause is None and self.statement is None else (str(self),)
+
+    @args.setter
+    def args(self, made_of: tuple[Any, ...]) -> None:
+        MADE_OF.__set__(self, made_of)
+
     def __reduce__(self) -> Any:
         self._tell()
         kept = {key: value for key, value in self.__dict__.items() if key not in ("_parsed", "_engine")}
-        return rebuilt, (type(self), self.args, kept)
+        return rebuilt, (type(self), MADE_OF.__get__(self), kept)
 
     @property
     def cause_name(self) -> str | None:
@@ -94,9 +111,9 @@ class Error(Exception):
 
     @property
     def reason(self) -> str | None:
-        """Why the statement was refused, for causes 3, 7 to 11, 16 to 18 and 21."""
+        """Why the statement was refused, for causes 3, 7 to 11, 16 to 18 and 21; what is probably the matter with a text that is no statement."""
         told = self.account.reason if self.account is not None else None
-        return told.text if told is not None else None
+        return told.text if told is not None else self._hint or None
 
     @property
     def violations(self) -> list[Violation]:

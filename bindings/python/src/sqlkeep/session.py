@@ -111,6 +111,9 @@ class Session:
         self._explain = False
         self.explain = explain
 
+    def __reduce__(self) -> Any:
+        raise TypeError("a session can't be copied or pickled; dump has the scripts that make its database again")
+
     def __enter__(self) -> Session:
         return self
 
