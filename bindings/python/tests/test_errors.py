@@ -167,7 +167,7 @@ class Faults(unittest.TestCase):
             ("SELECT * FROM t\nWHERE a = 'x", 2, 11, "'x (a text doesn't end)"),
             ("SELECT a / 2 FROM t", 1, 10, "/ 2 FROM t (no word begins so)"),
             ("INSERT INTO t VALUES (9223372036854775808)", 1, 23, "9223372036854775808) (a name or a number is too long)"),
-            (";", 1, 1, "; (there is no statement before the semicolon)"),
+            (";;", 1, 1, ";; (there is no statement before the semicolon)"),
             ("SELECT * FROM t; SELEKT", 1, 18, "SELEKT (did you mean SELECT?)"),
             ("SELECT 1", 1, 1, "SELECT 1 (a SELECT has a FROM)"),
             ("SELECT a FROM t ORDER BY a", 1, 17, "ORDER BY a (there is no ORDER BY)"),

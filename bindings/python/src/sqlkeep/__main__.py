@@ -2,9 +2,9 @@
 from __future__ import annotations
 
 import argparse
-import contextlib
 import os
 import sys
+from typing import TextIO
 
 from . import __version__, is_proved
 from .errors import ProgrammingError
@@ -49,8 +49,7 @@ def on_streams(session: Session, file: str | None) -> int:
     try:
         return Shell(session, sys.stdin, sys.stdout, sys.stderr).run(file)
     except OSError as why:
-        # What is left in a buffer would be complained of once more at the end.
-        os.dup2(os.open(os.devnull, os.O_WRONLY), sys.stdout.fileno())
+        give_up(sys.stdout)
         if not isinstance(why, BrokenPipeError):
             say(reason_of(why))
         return 2
@@ -59,8 +58,15 @@ def on_streams(session: Session, file: str | None) -> int:
 def say(text: str) -> None:
     """Says on standard error, if that can be, why the shell ends."""
     if sys.stderr is not None:
-        with contextlib.suppress(OSError):
+        try:
             print(f"python -m sqlkeep: {text}", file=sys.stderr, flush=True)
+        except OSError:
+            give_up(sys.stderr)
+
+
+def give_up(stream: TextIO) -> None:
+    """Drops what is left in a stream's buffer: Python would complain of it once more at its end."""
+    os.dup2(os.open(os.devnull, os.O_WRONLY), stream.fileno())
 
 
 if __name__ == "__main__":
