@@ -94,6 +94,9 @@ def main():
         except Skipped as wanted:
             print(f"the sanitized extension with {python}: skipped; {wanted}")
             found = [0, 0, 1]
+        except (AssertionError, OSError, subprocess.SubprocessError) as why:
+            print(f"FAILED the sanitized extension with {python}: {why}")
+            found = [0, 1, 0]
         counts = [sum(pair) for pair in zip(counts, found)]
     print(f"{counts[0]} passed, {counts[1]} failed, {counts[2]} skipped")
     return int(counts[1] > 0)

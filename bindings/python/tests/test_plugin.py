@@ -157,12 +157,13 @@ class Messages(unittest.TestCase):
     ]
 
     def test_each_shows_the_account(self):
-        for call, wanted in self.FAILURES:
-            with self.subTest(call):
-                output, outcomes = in_folder(self.HEAD + call + "\n")
-                self.assertEqual(outcomes, {"test_it": "failure"}, output)
-                shown = "\n".join(line[8:] if line.startswith("E ") else line for line in output.splitlines())
-                self.assertIn(wanted, shown)
+        head, _, body = self.HEAD.partition("\n")
+        output, outcomes = in_folder(head + "".join("\n" + body.replace("test_it", f"test_{at}") + call for at, (call, _) in enumerate(self.FAILURES)) + "\n")
+        self.assertEqual(outcomes, {f"test_{at}": "failure" for at in range(len(self.FAILURES))}, output)
+        shown = "\n".join(line[8:] if line.startswith("E ") else line for line in output.splitlines())
+        parts = re.split(r"^_+ test_\d+ _+$", shown, flags=re.M)[1:]
+        for (call, wanted), part in zip(self.FAILURES, parts):
+            self.assertIn(wanted, part, call)
 
     def test_what_passes(self):
         calls = [

@@ -69,6 +69,14 @@ class Scripts(unittest.TestCase):
                     ends = [end for _, end in spans(text) if len(text[:end].encode()) <= run.fault]
                     self.assertEqual(len(ends), run.accepted + run.refused)
 
+    def test_parameters_are_a_sequence(self):
+        session = sqlkeep.Session()
+        session.execute("CREATE TABLE t (a INT, b INT)").check()
+        self.assertEqual(session.execute("INSERT INTO t VALUES (?, ?)", (number for number in (1, 2))).count, 1)
+        for given in ("12", b"12", {1: 2, 3: 4}, 12, None):
+            with self.assertRaisesRegex(sqlkeep.ProgrammingError, "the parameters are a sequence"):
+                session.execute("INSERT INTO t VALUES (?, ?)", given)
+
     def test_run_counts(self):
         run = sqlkeep.Session().run("CREATE TABLE t (a INT CHECK (a > 0)); INSERT INTO t VALUES (0); INSERT INTO t VALUES (1); SELEKT")
         self.assertEqual((run.accepted, run.refused, run.memory_refused, run.fault, run.untold), (2, 1, 0, 90, 0))

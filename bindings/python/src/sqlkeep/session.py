@@ -8,6 +8,7 @@ from ._engine import Engine
 from .account import Account
 from .answers import CHANGED, DONE, EMPTY, ROWS, columns_of, encoded, error_of, fault_in
 from .catalogue import Catalogue, catalogue_of
+from .cursor import values_of
 from .errors import DatabaseError
 from .plans import COMMIT, plan_of
 from .text import folded
@@ -153,11 +154,12 @@ class Session:
     def execute(self, text: str, parameters: Sequence[Value] = ()) -> Outcome:
         """Executes one statement, with a value for each `?` in it. A refusal is an outcome and raises nothing; a text that is no
         statement raises ProgrammingError."""
+        values = values_of(parameters)
         try:
-            answer = self._engine.execute(text, tuple(parameters), plan_of(text) == COMMIT)
+            answer = self._engine.execute(text, values, plan_of(text) == COMMIT)
         except DatabaseError as error:
             return refused(error)
-        return outcome_of(self, answer, text, len(parameters))
+        return outcome_of(self, answer, text, len(values))
 
     def script(self, text: str) -> list[Outcome]:
         """Executes the statements of a text until one is refused, and gives their outcomes. Where something of the text is no

@@ -11,6 +11,7 @@ from typing import Iterable, Mapping, Sequence
 from .account import Account
 from .causes import CAUSES
 from .connection import Connection
+from .cursor import values_of
 from .errors import DatabaseError, DataError, IntegrityError
 from .plans import first_word
 from .session import Outcome
@@ -109,7 +110,7 @@ def explained(db: Connection, sql: str, parameters: Sequence[Value]) -> Outcome:
     session = db._native()
     before, session.explain = session.explain, True
     try:
-        return db._outcome(sql, tuple(parameters))
+        return db._outcome(sql, values_of(parameters))
     finally:
         session.explain = before
 
