@@ -51,7 +51,7 @@ PyObject *failed(const module_state *module, uint32_t status) {
         PyErr_SetString(PyExc_IndexError, "there is nothing at this place");
         break;
     default:
-        PyErr_Format(module->operational, "the library answered status %u", status);
+        PyErr_SetString(module->operational, sqlkeep_status_text(status));
     }
     return NULL;
 }

@@ -194,6 +194,15 @@ class Dumps(unittest.TestCase):
             CREATE TRIGGER gone AFTER DELETE ON shelf BEGIN ATOMIC DELETE FROM book WHERE number IS NULL; SIGNAL 'no'; END;""")
         return connection
 
+    def test_a_database_that_no_dump_makes_again(self):
+        """Its rows need two INSERTs, so the foreign key comes after NOT NULL, and both have generated names that are too long to be written."""
+        session, name = sqlkeep.Session(), "n" * 127
+        session.execute(f"CREATE TABLE {name} (a INT PRIMARY KEY, b INT REFERENCES {name}, c VARCHAR(4000) NOT NULL)").check()
+        session._engine.execute_many(f"INSERT INTO {name} VALUES (?, NULL, ?)", [(number, "x" * 4000) for number in range(400)], 0, 0)
+        session.commit()
+        with self.assertRaisesRegex(sqlkeep.OperationalError, "^what was written doesn't make the same again$"):
+            session.dump()
+
     def test_a_dump_makes_the_database_again(self):
         first, second = self.filled().session, sqlkeep.Session()
         scripts = first.dump()

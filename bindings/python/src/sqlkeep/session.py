@@ -216,7 +216,7 @@ class Session:
     def dump(self) -> list[str]:
         """The database as scripts that make it again, to be executed one after another in a new session: each table with its constraints and
         its rows, in creation order, then the triggers. Rows get new numbers. ProgrammingError where a transaction is open, OperationalError
-        where a row would need a script that is too long, or memory was refused."""
+        where a row would need a script that is too long, the scripts don't make the same database, or memory was refused."""
         return self._engine.dump()
 
     def work(self) -> Work:
