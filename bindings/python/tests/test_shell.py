@@ -12,8 +12,7 @@ from pathlib import Path
 
 from sqlkeep.shell.complete import candidates
 from sqlkeep.shell.loop import Shell
-from sqlkeep.shell.screen import visible
-from sqlkeep.shell.show import as_csv, as_json, as_table, caret, width_of
+from sqlkeep.shell.show import as_csv, as_json, as_table, caret, visible, width_of
 from sqlkeep import Session
 
 

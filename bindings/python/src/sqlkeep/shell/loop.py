@@ -15,8 +15,8 @@ from .commands import COMMANDS, Failed, read, run_command
 from .complete import candidates
 from .interrupts import Interrupts
 from .kept import Kept
-from .screen import Screen, visible
-from .show import as_account, as_csv, as_json, as_table, caret, counted
+from .screen import Screen
+from .show import as_account, as_csv, as_json, as_table, caret, counted, visible
 from .typed import Typed
 
 __all__ = ["Shell"]

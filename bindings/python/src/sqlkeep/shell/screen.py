@@ -4,14 +4,11 @@ from __future__ import annotations
 import os
 from typing import TextIO
 
-__all__ = ["Screen", "visible"]
+from .show import visible
+
+__all__ = ["Screen"]
 
 CODES = {"refused": "31", "ok": "32", "dim": "2", "head": "1"}
-
-
-def visible(text: str, kept: str = "") -> str:
-    """A text in which each character that would move the cursor is written as in Python, except these."""
-    return "".join(character if character.isprintable() or character in kept else character.encode("unicode_escape").decode() for character in text)
 
 
 class Screen:

@@ -9,9 +9,8 @@ from typing import Sequence
 
 from ..account import Account
 from ..values import Value
-from .screen import visible
 
-__all__ = ["as_account", "as_csv", "as_json", "as_table", "caret", "counted", "width_of"]
+__all__ = ["as_account", "as_csv", "as_json", "as_table", "caret", "counted", "visible", "width_of"]
 
 Row = Sequence[Value]
 # As many characters of a line are shown on each side of a caret.
@@ -21,6 +20,11 @@ MOST_SHOWN = 80
 def counted(count: int, what: str) -> str:
     """A number of things: `1 row`, `2 rows`."""
     return f"{count} {what}{'' if count == 1 else 's'}"
+
+
+def visible(text: str, kept: str = "") -> str:
+    """A text in which each character that would move the cursor is written as in Python, except these."""
+    return "".join(character if character.isprintable() or character in kept else character.encode("unicode_escape").decode() for character in text)
 
 
 def width_of(text: str) -> int:
