@@ -14,6 +14,7 @@ import hashlib
 import os
 import re
 import shutil
+import signal
 import subprocess
 import sys
 import tempfile
@@ -29,7 +30,7 @@ import wheel as made_by
 
 PACKAGE = ROOT / "bindings" / "python"
 PAGES = ROOT / "docs" / "library"
-SUITES = ["test_pep249", "test_sqlite3", "test_errors", "test_transactions", "test_parameters", "test_groups", "test_accounts", "test_session", "test_results", "test_hints", "test_shell", "test_memory"]
+SUITES = ["test_pep249", "test_sqlite3", "test_errors", "test_transactions", "test_parameters", "test_groups", "test_accounts", "test_session", "test_results", "test_hints", "test_shell", "test_memory", "test_reentered"]
 LARGEST = 2_000_000
 BLOCK = re.compile(r"^```(\w+)\n(.*?)^```$", re.M | re.S)
 # Runs the blocks of a page's section one after the other, and writes what each has printed.
@@ -341,6 +342,7 @@ def try_all(counts, room, wheel, library):
     counts.test("help", help_is_there, room, python)
     for path in sorted((ROOT / "tests" / "shell").glob("*.txt")):
         counts.test(f"shell: {path.stem}", dialogue, python, path)
+    counts.test("shell: signals", dialogue_without_signals, python, ROOT / "tests" / "shell" / "ctrl_c_drops_the_line.txt")
     try_pytest(counts, room)
 
 
@@ -354,6 +356,15 @@ def try_others(counts, room, wants_all):
 def dialogue(python, path):
     wrong = dialogues.faults(str(python), path)
     assert not wrong, wrong[0]
+
+
+def dialogue_without_signals(python, path):
+    """As behind `&` or nohup, where the runner ignores Ctrl-C."""
+    before = signal.signal(signal.SIGINT, signal.SIG_IGN)
+    try:
+        dialogue(python, path)
+    finally:
+        signal.signal(signal.SIGINT, before)
 
 
 def try_pytest(counts, room):

@@ -23,6 +23,7 @@ import pty
 import re
 import select
 import shlex
+import signal
 import struct
 import subprocess
 import sys
@@ -162,7 +163,9 @@ class Terminal:
 
 
 def take_terminal(slave):
+    """The terminal is the child's, which has the usual Ctrl-C even if it is ignored here, as behind `&`."""
     fcntl.ioctl(slave, termios.TIOCSCTTY, 0)
+    signal.signal(signal.SIGINT, signal.SIG_DFL)
 
 
 def keys_of(screen):

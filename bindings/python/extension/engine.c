@@ -1,23 +1,9 @@
-/* sqlkeep._engine: a session of the library as an object of Python, over the library for C that is linked into it.
-
-   All calls for a session are made on the thread that opened it. One whose object ends on another thread is put on a list, and
-   its thread closes it when it next opens a session. */
+/* sqlkeep._engine: a session of the library as an object of Python, over the library for C that is linked into it. Each interpreter has the
+   module with a state of its own. */
 #include "engine.h"
 
 #include <stdlib.h>
 #include <string.h>
-
-/* A session or a result that ended on another thread than its own. */
-typedef struct left {
-    sqlkeep handle;
-    sqlkeep_result result;
-    unsigned long thread;
-    struct left *next;
-} left;
-
-static left *all_left;
-
-error_classes errors;
 
 int bytes_push(bytes *to, const void *from, size_t length) {
     size_t room = to->room < 256 ? 256 : to->room;
@@ -26,7 +12,7 @@ int bytes_push(bytes *to, const void *from, size_t length) {
     }
     uint8_t *at = room == to->room ? to->at : realloc(to->at, room);
     if (at == NULL) {
-        failed(SQLKEEP_NO_MEMORY);
+        PyErr_NoMemory();
         return -1;
     }
     to->at = at;
@@ -41,88 +27,46 @@ void bytes_free(bytes *of) {
     memset(of, 0, sizeof *of);
 }
 
-/* Closes the sessions and frees the results that other threads left to this one. */
-static void close_left(unsigned long thread) {
-    left **at = &all_left;
-    while (*at != NULL) {
-        left *each = *at;
-        if (each->thread == thread) {
-            *at = each->next;
-            sqlkeep_result_free(&each->result);
-            sqlkeep_close(&each->handle);
-            free(each);
-        } else {
-            at = &each->next;
-        }
-    }
-}
-
-void leave(const sqlkeep *handle, const sqlkeep_result *result, unsigned long thread) {
-    left *kept = malloc(sizeof *kept);
-    if (kept != NULL) {
-        kept->handle = *handle;
-        kept->result = *result;
-        kept->thread = thread;
-        kept->next = all_left;
-        all_left = kept;
-    }
-}
-
-/* Ends a session on whichever thread this is. */
-static void end_session(engine *self) {
-    const sqlkeep_result none = SQLKEEP_NO_RESULT;
-    if (!self->handle.is_open) {
-        return;
-    }
-    if (self->thread == PyThread_get_thread_ident()) {
-        sqlkeep_close(&self->handle);
-    } else {
-        leave(&self->handle, &none, self->thread);
-    }
-    memset(&self->handle, 0, sizeof self->handle);
-}
-
-PyObject *failed(uint32_t status) {
+PyObject *failed(const module_state *module, uint32_t status) {
     switch (status) {
     case SQLKEEP_CLOSED:
-        PyErr_SetString(errors.programming, "the connection is closed");
+        PyErr_SetString(module->programming, "the connection is closed");
         break;
     case SQLKEEP_LIMITS:
-        PyErr_SetString(errors.programming, "depth is 1 to 64, and changes 1 to 65536");
+        PyErr_SetString(module->programming, "depth is 1 to 64, and changes 1 to 65536");
         break;
     case SQLKEEP_NOT_UTF8:
-        PyErr_SetString(errors.programming, "the text isn't UTF-8");
+        PyErr_SetString(module->programming, "the text isn't UTF-8");
         break;
     case SQLKEEP_TOO_LONG:
-        PyErr_SetString(errors.operational, "the script is longer than 1048576 bytes");
+        PyErr_SetString(module->operational, "the script is longer than 1048576 bytes");
         break;
     case SQLKEEP_NO_MEMORY:
-        PyErr_SetString(errors.operational, "OutOfMemory: memory was refused");
+        PyErr_SetString(module->operational, "OutOfMemory: memory was refused");
         break;
     case SQLKEEP_IN_TRANSACTION:
-        PyErr_SetString(errors.programming, "a transaction is open: commit it or roll it back");
+        PyErr_SetString(module->programming, "a transaction is open: commit it or roll it back");
         break;
     case SQLKEEP_NOTHING:
         PyErr_SetString(PyExc_IndexError, "there is nothing at this place");
         break;
     default:
-        PyErr_Format(errors.operational, "the library answered status %u", status);
+        PyErr_SetString(module->operational, sqlkeep_status_text(status));
     }
     return NULL;
 }
 
 int engine_ready(engine *self) {
-    if (!self->handle.is_open) {
-        failed(SQLKEEP_CLOSED);
+    if (!own_is_here(self->own)) {
+        PyErr_SetString(self->module->programming, "the connection was opened on another thread; each thread opens its own");
         return -1;
     }
-    if (self->thread != PyThread_get_thread_ident()) {
-        PyErr_Format(errors.programming, "the connection was opened on thread %lu and is used on thread %lu; each thread opens its own",
-                     self->thread, PyThread_get_thread_ident());
+    if (!self->own->handle.is_open) {
+        failed(self->module, SQLKEEP_CLOSED);
         return -1;
     }
     if (self->is_busy) {
-        PyErr_SetString(errors.programming, "the connection is executing a statement");
+        PyErr_SetString(self->module->programming, "the connection is executing a statement");
         return -1;
     }
     if (self->untold != NULL) {
@@ -159,19 +103,20 @@ static PyObject *nothing(void) {
     return Py_None;
 }
 
-static PyObject *done_or_failed(uint32_t status) {
-    return status == SQLKEEP_OK ? nothing() : failed(status);
+static PyObject *done_or_failed(const engine *self, uint32_t status) {
+    return status == SQLKEEP_OK ? nothing() : failed(self->module, status);
 }
 
 /* ---- the object */
 
 static PyObject *engine_new(PyTypeObject *type, PyObject *arguments, PyObject *keywords) {
     long long depth, changes;
+    const module_state *module = PyType_GetModuleState(type);
     (void)keywords;
     if (!PyArg_ParseTuple(arguments, "LL:Engine", &depth, &changes)) {
         return NULL;
     }
-    if (errors.by_cause == NULL) {
+    if (module->by_cause == NULL) {
         PyErr_SetString(PyExc_ImportError, "import sqlkeep, and not its engine alone");
         return NULL;
     }
@@ -180,14 +125,14 @@ static PyObject *engine_new(PyTypeObject *type, PyObject *arguments, PyObject *k
     if (self == NULL) {
         return NULL;
     }
-    self->thread = PyThread_get_thread_ident();
+    self->module = module;
+    self->own = own_begin(module);
     self->accounts = true;
-    close_left(self->thread);
     bool fits = depth >= 0 && depth <= UINT8_MAX && changes >= 0 && changes <= UINT32_MAX;
-    uint32_t status = fits ? sqlkeep_open(&self->handle, (uint8_t)depth, (uint32_t)changes) : (uint32_t)SQLKEEP_LIMITS;
-    if (status != SQLKEEP_OK) {
+    uint32_t status = self->own == NULL ? SQLKEEP_OK : fits ? sqlkeep_open(&self->own->handle, (uint8_t)depth, (uint32_t)changes) : SQLKEEP_LIMITS;
+    if (self->own == NULL || status != SQLKEEP_OK) {
         Py_DECREF(self);
-        return failed(status);
+        return status == SQLKEEP_OK ? NULL : failed(module, status);
     }
     return (PyObject *)self;
 }
@@ -196,7 +141,9 @@ static void engine_dealloc(PyObject *object) {
     engine *self = (engine *)object;
     PyTypeObject *type = Py_TYPE(object);
     freefunc release = (freefunc)PyType_GetSlot(type, Py_tp_free);
-    end_session(self);
+    if (self->own != NULL) {
+        own_end(self->own);
+    }
     bytes_free(&self->text);
     Py_CLEAR(self->held);
     Py_CLEAR(self->untold);
@@ -206,17 +153,17 @@ static void engine_dealloc(PyObject *object) {
 
 static PyObject *engine_close(engine *self, PyObject *unused) {
     (void)unused;
-    if (self->handle.is_open && engine_ready(self) != 0) {
+    if (self->own->handle.is_open && engine_ready(self) != 0) {
         return NULL;
     }
-    end_session(self);
+    sqlkeep_close(&self->own->handle);
     Py_CLEAR(self->held);
     return nothing();
 }
 
 static PyObject *engine_is_open(engine *self, PyObject *unused) {
     (void)unused;
-    return PyBool_FromLong(self->handle.is_open);
+    return PyBool_FromLong(self->own->handle.is_open);
 }
 
 /* Raises where the session is closed, or of another thread. */
@@ -233,10 +180,10 @@ static PyObject *transcript_of(engine *self) {
     uint8_t piece[4096];
     size_t copied = sizeof piece;
     while (copied == sizeof piece) {
-        uint32_t status = sqlkeep_transcript(&self->handle, whole.length, piece, sizeof piece, &copied);
+        uint32_t status = sqlkeep_transcript(&self->own->handle, whole.length, piece, sizeof piece, &copied);
         if (status != SQLKEEP_OK || bytes_push(&whole, piece, copied) != 0) {
             free(whole.at);
-            return status != SQLKEEP_OK ? failed(status) : NULL;
+            return status != SQLKEEP_OK ? failed(self->module, status) : NULL;
         }
     }
     PyObject *text = PyBytes_FromStringAndSize((const char *)whole.at, (Py_ssize_t)whole.length);
@@ -245,8 +192,8 @@ static PyObject *transcript_of(engine *self) {
 }
 
 PyObject *engine_lines(engine *self, uint64_t number) {
-    uint32_t status = sqlkeep_lines(&self->handle, number);
-    return status == SQLKEEP_OK ? transcript_of(self) : failed(status);
+    uint32_t status = sqlkeep_lines(&self->own->handle, number);
+    return status == SQLKEEP_OK ? transcript_of(self) : failed(self->module, status);
 }
 
 static PyObject *engine_told_lines(engine *self, PyObject *arguments) {
@@ -261,9 +208,9 @@ static PyObject *run_text(engine *self, const char *text, Py_ssize_t length) {
     sqlkeep_summary summary = {0, 0, 0, 0, 0, 0};
     uint32_t status;
     Py_BEGIN_ALLOW_THREADS
-    status = sqlkeep_run(&self->handle, (const uint8_t *)text, (size_t)length, &summary);
+    status = sqlkeep_run(&self->own->handle, (const uint8_t *)text, (size_t)length, &summary);
     Py_END_ALLOW_THREADS
-    PyObject *lines = status == SQLKEEP_OK ? transcript_of(self) : failed(status);
+    PyObject *lines = status == SQLKEEP_OK ? transcript_of(self) : failed(self->module, status);
     PyObject *fault = lines == NULL ? NULL : summary.has_fault ? PyLong_FromUnsignedLongLong(summary.fault_at) : nothing();
     if (fault == NULL) {
         Py_XDECREF(lines);
@@ -286,21 +233,38 @@ static PyObject *engine_run(engine *self, PyObject *arguments) {
 
 /* ---- scripts */
 
-/* read(bytes): how many statements there are, and the byte of the fault or None. */
+/* Reads a text; the statements that were read before are gone. 0, or -1 with an exception. */
+static int read_text_of(engine *self, const char *text, Py_ssize_t length, sqlkeep_script *script) {
+    Py_CLEAR(self->held);
+    uint32_t status = sqlkeep_read(&self->own->handle, (const uint8_t *)text, (size_t)length, script);
+    return status == SQLKEEP_OK ? 0 : (failed(self->module, status), -1);
+}
+
+/* A list with the bytes where each statement that was read begins and ends. */
+static PyObject *places(engine *self, size_t count) {
+    PyObject *list = PyList_New((Py_ssize_t)count);
+    for (size_t at = 0; list != NULL && at < count; at++) {
+        sqlkeep_span span = {0, 0};
+        uint32_t status = sqlkeep_statement_place(&self->own->handle, at, &span);
+        PyObject *place = status != SQLKEEP_OK ? failed(self->module, status) : Py_BuildValue("KK", (unsigned long long)span.begin, (unsigned long long)span.end);
+        if (place == NULL || PyList_SetItem(list, (Py_ssize_t)at, place) != 0) {
+            Py_DECREF(list);
+            return NULL;
+        }
+    }
+    return list;
+}
+
+/* read(bytes): the bytes where each statement begins and ends, and whether something is left that is no statement. */
 static PyObject *engine_read(engine *self, PyObject *arguments) {
     const char *text;
     Py_ssize_t length;
     sqlkeep_script script = {0, 0, 0};
-    if (!PyArg_ParseTuple(arguments, "y#:read", &text, &length) || engine_ready(self) != 0) {
+    if (!PyArg_ParseTuple(arguments, "y#:read", &text, &length) || engine_begin(self) != 0) {
         return NULL;
     }
-    Py_CLEAR(self->held);
-    uint32_t status = sqlkeep_read(&self->handle, (const uint8_t *)text, (size_t)length, &script);
-    if (status != SQLKEEP_OK) {
-        return failed(status);
-    }
-    PyObject *fault = script.has_fault ? PyLong_FromUnsignedLongLong(script.fault_at) : nothing();
-    return fault == NULL ? NULL : Py_BuildValue("KN", (unsigned long long)script.statements, fault);
+    PyObject *found = read_text_of(self, text, length, &script) == 0 ? places(self, (size_t)script.statements) : NULL;
+    return engine_end(self, found == NULL ? NULL : Py_BuildValue("NN", found, PyBool_FromLong(script.has_fault != 0)));
 }
 
 /* word(bytes): where the first word of a text begins and ends that can't stand where it does, and whether the text ends there; or None. The
@@ -310,18 +274,16 @@ static PyObject *engine_word(engine *self, PyObject *arguments) {
     Py_ssize_t length;
     sqlkeep_script script = {0, 0, 0};
     sqlkeep_place place = {0, 0, 0, 0};
-    if (!PyArg_ParseTuple(arguments, "y#:word", &text, &length) || engine_ready(self) != 0) {
+    if (!PyArg_ParseTuple(arguments, "y#:word", &text, &length) || engine_begin(self) != 0) {
         return NULL;
     }
-    Py_CLEAR(self->held);
-    uint32_t status = sqlkeep_read(&self->handle, (const uint8_t *)text, (size_t)length, &script);
-    if (status != SQLKEEP_OK) {
-        return failed(status);
+    if (read_text_of(self, text, length, &script) != 0) {
+        return engine_end(self, NULL);
     }
-    if (sqlkeep_fault(&self->handle, &place) != SQLKEEP_OK) {
-        return nothing();
+    if (sqlkeep_fault(&self->own->handle, &place) != SQLKEEP_OK) {
+        return engine_end(self, nothing());
     }
-    return Py_BuildValue("KKN", (unsigned long long)place.word, (unsigned long long)place.end, PyBool_FromLong(place.is_cut != 0));
+    return engine_end(self, Py_BuildValue("KKN", (unsigned long long)place.word, (unsigned long long)place.end, PyBool_FromLong(place.is_cut != 0)));
 }
 
 /* ---- transactions, and what the library tells */
@@ -334,17 +296,17 @@ static PyObject *engine_commit(engine *self, PyObject *unused) {
         return NULL;
     }
     self->has_work = false;
-    sqlkeep_explain(&self->handle, 1);
-    uint32_t status = sqlkeep_commit(&self->handle, &outcome);
-    PyObject *answer = status == SQLKEEP_OK ? engine_answer(self, 0, &outcome, true) : failed(status);
-    sqlkeep_explain(&self->handle, self->explains);
+    sqlkeep_explain(&self->own->handle, 1);
+    uint32_t status = sqlkeep_commit(&self->own->handle, &outcome);
+    PyObject *answer = status == SQLKEEP_OK ? engine_answer(self, 0, &outcome, true) : failed(self->module, status);
+    sqlkeep_explain(&self->own->handle, self->explains);
     return engine_end(self, answer);
 }
 
 static PyObject *engine_rollback(engine *self, PyObject *unused) {
     (void)unused;
     self->has_work = false;
-    return engine_ready(self) != 0 ? NULL : done_or_failed(sqlkeep_rollback(&self->handle));
+    return engine_ready(self) != 0 ? NULL : done_or_failed(self, sqlkeep_rollback(&self->own->handle));
 }
 
 static PyObject *engine_rollback_to(engine *self, PyObject *arguments) {
@@ -355,8 +317,8 @@ static PyObject *engine_rollback_to(engine *self, PyObject *arguments) {
         return NULL;
     }
     self->has_work = false;
-    uint32_t status = sqlkeep_rollback_to(&self->handle, (const uint8_t *)name, (size_t)length, &outcome);
-    return engine_end(self, status == SQLKEEP_OK ? engine_answer(self, 0, &outcome, true) : failed(status));
+    uint32_t status = sqlkeep_rollback_to(&self->own->handle, (const uint8_t *)name, (size_t)length, &outcome);
+    return engine_end(self, status == SQLKEEP_OK ? engine_answer(self, 0, &outcome, true) : failed(self->module, status));
 }
 
 static PyObject *engine_in_transaction(engine *self, PyObject *unused) {
@@ -365,8 +327,8 @@ static PyObject *engine_in_transaction(engine *self, PyObject *unused) {
     if (engine_ready(self) != 0) {
         return NULL;
     }
-    uint32_t status = sqlkeep_in_transaction(&self->handle, &is_open);
-    return status == SQLKEEP_OK ? PyBool_FromLong(is_open) : failed(status);
+    uint32_t status = sqlkeep_in_transaction(&self->own->handle, &is_open);
+    return status == SQLKEEP_OK ? PyBool_FromLong(is_open) : failed(self->module, status);
 }
 
 static PyObject *engine_work(engine *self, PyObject *unused) {
@@ -375,11 +337,11 @@ static PyObject *engine_work(engine *self, PyObject *unused) {
     if (engine_ready(self) != 0) {
         return NULL;
     }
-    uint32_t status = sqlkeep_work(&self->handle, &work);
+    uint32_t status = sqlkeep_work(&self->own->handle, &work);
     /* That of a statement that was executed once more is the one of the first time. */
     work = self->has_work ? self->work : work;
     if (status != SQLKEEP_OK) {
-        return failed(status);
+        return failed(self->module, status);
     }
     return Py_BuildValue("KKK", (unsigned long long)work.changes, (unsigned long long)work.undone, (unsigned long long)work.lookups);
 }
@@ -390,17 +352,17 @@ static PyObject *violation_at(engine *self, size_t place) {
     char name[1024];
     uint64_t row = 0;
     size_t copied = 0;
-    uint32_t status = sqlkeep_violation(&self->handle, place, &row, (uint8_t *)name, sizeof name, &copied);
+    uint32_t status = sqlkeep_violation(&self->own->handle, place, &row, (uint8_t *)name, sizeof name, &copied);
     if (status != SQLKEEP_OK) {
-        return failed(status);
+        return failed(self->module, status);
     }
     return Py_BuildValue("s#K", name, (Py_ssize_t)copied, (unsigned long long)row);
 }
 
 static PyObject *violations(engine *self) {
     size_t count = 0;
-    uint32_t status = sqlkeep_pending(&self->handle, &count);
-    PyObject *list = status == SQLKEEP_OK ? PyList_New((Py_ssize_t)count) : failed(status);
+    uint32_t status = sqlkeep_pending(&self->own->handle, &count);
+    PyObject *list = status == SQLKEEP_OK ? PyList_New((Py_ssize_t)count) : failed(self->module, status);
     for (size_t place = 0; list != NULL && place < count; place++) {
         PyObject *violation = violation_at(self, place);
         if (violation == NULL || PyList_SetItem(list, (Py_ssize_t)place, violation) != 0) {
@@ -424,13 +386,13 @@ static PyObject *engine_progress(engine *self, PyObject *unused) {
 
 static PyObject *engine_catalogue(engine *self, PyObject *unused) {
     (void)unused;
-    return engine_begin(self) != 0 ? NULL : engine_end(self, catalogue_of(&self->handle));
+    return engine_begin(self) != 0 ? NULL : engine_end(self, catalogue_of(self));
 }
 
 /* dump(): the scripts that make the database again. */
 static PyObject *engine_dump(engine *self, PyObject *unused) {
     (void)unused;
-    return engine_begin(self) != 0 ? NULL : engine_end(self, dump_of(&self->handle));
+    return engine_begin(self) != 0 ? NULL : engine_end(self, dump_of(self));
 }
 
 /* row(number): the row of this number as (table, values), or None. */
@@ -439,7 +401,7 @@ static PyObject *engine_row(engine *self, PyObject *arguments) {
     if (!PyArg_ParseTuple(arguments, "K:row", &number) || engine_begin(self) != 0) {
         return NULL;
     }
-    return engine_end(self, stored_row(&self->handle, (size_t)number));
+    return engine_end(self, stored_row(self, (size_t)number));
 }
 
 static PyObject *engine_explain(engine *self, PyObject *arguments) {
@@ -448,7 +410,7 @@ static PyObject *engine_explain(engine *self, PyObject *arguments) {
         return NULL;
     }
     self->explains = asked != 0;
-    return done_or_failed(sqlkeep_explain(&self->handle, self->explains));
+    return done_or_failed(self, sqlkeep_explain(&self->own->handle, self->explains));
 }
 
 /* account(is_wanted): whether a statement that is refused for a row is executed once more for its account. */
@@ -498,23 +460,64 @@ static PyType_Slot slots[] = {
 
 static PyType_Spec spec = {"sqlkeep._engine.Engine", sizeof(engine), 0, Py_TPFLAGS_DEFAULT, slots};
 
+static int module_traverse(PyObject *module, visitproc visit, void *arg) {
+    const module_state *state = PyModule_GetState(module);
+    Py_VISIT(state->programming);
+    Py_VISIT(state->data);
+    Py_VISIT(state->operational);
+    Py_VISIT(state->by_cause);
+    Py_VISIT(state->engine_type);
+    Py_VISIT(state->rows_type);
+    Py_VISIT(state->guard_type);
+    return 0;
+}
+
+static void clear_errors(module_state *state) {
+    Py_CLEAR(state->programming);
+    Py_CLEAR(state->data);
+    Py_CLEAR(state->operational);
+    Py_CLEAR(state->by_cause);
+    Py_CLEAR(state->cause);
+    Py_CLEAR(state->row);
+    Py_CLEAR(state->lines);
+    Py_CLEAR(state->engine);
+}
+
+static int module_clear(PyObject *module) {
+    module_state *state = PyModule_GetState(module);
+    clear_errors(state);
+    Py_CLEAR(state->engine_type);
+    Py_CLEAR(state->rows_type);
+    Py_CLEAR(state->guard_type);
+    return 0;
+}
+
+static void module_free(void *module) {
+    module_clear(module);
+}
+
 /* set_errors(programming, data, operational, by_cause, main_thread): the classes of the exceptions, and the main thread. */
 static PyObject *set_errors(PyObject *module, PyObject *arguments) {
-    error_classes given = {NULL, NULL, NULL, NULL, 0, NULL, NULL, NULL, NULL};
-    (void)module;
-    if (!PyArg_ParseTuple(arguments, "OOOO!k:set_errors", &given.programming, &given.data, &given.operational, &PyTuple_Type, &given.by_cause,
-                          &given.main_thread)) {
+    module_state *state = PyModule_GetState(module);
+    PyObject *programming, *data, *operational, *by_cause;
+    unsigned long main_thread;
+    if (!PyArg_ParseTuple(arguments, "OOOO!k:set_errors", &programming, &data, &operational, &PyTuple_Type, &by_cause, &main_thread)) {
         return NULL;
     }
-    Py_INCREF(given.programming);
-    Py_INCREF(given.data);
-    Py_INCREF(given.operational);
-    Py_INCREF(given.by_cause);
-    given.cause = PyUnicode_InternFromString("cause");
-    given.row = PyUnicode_InternFromString("_row");
-    given.lines = PyUnicode_InternFromString("_lines");
-    given.engine = PyUnicode_InternFromString("_engine");
-    errors = given;
+    clear_errors(state);
+    Py_INCREF(programming);
+    Py_INCREF(data);
+    Py_INCREF(operational);
+    Py_INCREF(by_cause);
+    state->programming = programming;
+    state->data = data;
+    state->operational = operational;
+    state->by_cause = by_cause;
+    state->cause = PyUnicode_InternFromString("cause");
+    state->row = PyUnicode_InternFromString("_row");
+    state->lines = PyUnicode_InternFromString("_lines");
+    state->engine = PyUnicode_InternFromString("_engine");
+    state->main_thread = main_thread;
     return PyErr_Occurred() ? NULL : nothing();
 }
 
@@ -523,17 +526,25 @@ static PyMethodDef functions[] = {
     {NULL, NULL, 0, NULL},
 };
 
+/* Makes the types of a module. */
+static int module_exec(PyObject *module) {
+    module_state *state = PyModule_GetState(module);
+    state->guard_type = guard_type(module);
+    state->rows_type = state->guard_type == NULL ? NULL : rows_type(module);
+    state->engine_type = state->rows_type == NULL ? NULL : (PyTypeObject *)PyType_FromModuleAndSpec(module, &spec, NULL);
+    return state->engine_type == NULL ? -1 : PyModule_AddType(module, state->engine_type);
+}
+
+static PyModuleDef_Slot module_slots[] = {
+    {Py_mod_exec, module_exec},
+    {0, NULL},
+};
+
 static struct PyModuleDef definition = {
-    PyModuleDef_HEAD_INIT, "sqlkeep._engine", "The engine that the package is made over.", -1, functions, NULL, NULL, NULL, NULL,
+    PyModuleDef_HEAD_INIT, "sqlkeep._engine", "The engine that the package is made over.", sizeof(module_state), functions, module_slots,
+    module_traverse, module_clear, module_free,
 };
 
 PyMODINIT_FUNC PyInit__engine(void) {
-    PyObject *module = PyModule_Create(&definition);
-    PyObject *type = module == NULL ? NULL : PyType_FromSpec(&spec);
-    if (type == NULL || rows_begin() != 0 || PyModule_AddObject(module, "Engine", type) != 0) {
-        Py_XDECREF(type);
-        Py_XDECREF(module);
-        return NULL;
-    }
-    return module;
+    return PyModuleDef_Init(&definition);
 }

@@ -2,13 +2,12 @@
    statements that follow leave them as they are. */
 #include "engine.h"
 
-#include <string.h>
-
 typedef struct rows {
     PyObject_HEAD
-    sqlkeep_result result;
-    /* The thread of the session, which alone may use them. */
-    unsigned long thread;
+    const module_state *module;
+    owned *own;
+    /* Whether rows are being copied. Code of the caller may run within it, as the end of an object, and must not ask for rows then. */
+    bool is_busy;
     size_t count, columns;
     /* How many rows were copied; the list of those that were copied last, and how many of it were given. */
     size_t copied;
@@ -17,16 +16,11 @@ typedef struct rows {
     struct room room;
 } rows;
 
-static PyObject *rows_type;
-
 static void end_rows(rows *self) {
-    const sqlkeep none = SQLKEEP_EMPTY;
-    if (self->result.is_open && self->thread == PyThread_get_thread_ident()) {
-        sqlkeep_result_free(&self->result);
-    } else if (self->result.is_open) {
-        leave(&none, &self->result, self->thread);
+    if (self->own != NULL) {
+        own_end(self->own);
+        self->own = NULL;
     }
-    memset(&self->result, 0, sizeof self->result);
     room_free(&self->room);
 }
 
@@ -44,14 +38,10 @@ static void rows_dealloc(PyObject *object) {
 static int copy_next(rows *self) {
     Py_CLEAR(self->list);
     self->given = 0;
-    if (self->thread != PyThread_get_thread_ident()) {
-        PyErr_SetString(errors.programming, "the rows are used on another thread than that of their connection");
-        return -1;
-    }
     if (self->room.cells == NULL && room_make(&self->room, self->columns) != 0) {
         return -1;
     }
-    self->list = some_rows(&self->result, self->copied, self->columns, &self->room);
+    self->list = some_rows(&self->own->result, self->copied, self->columns, &self->room);
     if (self->list == NULL) {
         return -1;
     }
@@ -62,11 +52,32 @@ static int copy_next(rows *self) {
     return 0;
 }
 
+/* 0 where rows may be copied, otherwise -1 with an exception. */
+static int rows_ready(const rows *self) {
+    if (!own_is_here(self->own)) {
+        PyErr_SetString(self->module->programming, "the rows are used on another thread than that of their connection");
+        return -1;
+    }
+    if (self->is_busy) {
+        PyErr_SetString(self->module->programming, "the rows are being copied");
+        return -1;
+    }
+    return 0;
+}
+
 static PyObject *rows_next(PyObject *object) {
     rows *self = (rows *)object;
     bool is_at_end = self->list == NULL || self->given == PyList_Size(self->list);
-    if (is_at_end && (self->copied == self->count || copy_next(self) != 0)) {
+    if (is_at_end && (self->copied == self->count || rows_ready(self) != 0)) {
         return NULL;
+    }
+    if (is_at_end) {
+        self->is_busy = true;
+        int failure = copy_next(self);
+        self->is_busy = false;
+        if (failure != 0) {
+            return NULL;
+        }
     }
     PyObject *row = PyList_GetItem(self->list, self->given++);
     Py_XINCREF(row);
@@ -88,25 +99,26 @@ static PyType_Slot slots[] = {
 
 static PyType_Spec spec = {"sqlkeep._engine.Rows", sizeof(rows), 0, Py_TPFLAGS_DEFAULT, slots};
 
-int rows_begin(void) {
-    rows_type = PyType_FromSpec(&spec);
-    return rows_type == NULL ? -1 : 0;
+PyTypeObject *rows_type(PyObject *module) {
+    return (PyTypeObject *)PyType_FromModuleAndSpec(module, &spec, NULL);
 }
 
 PyObject *rows_taken(engine *self) {
     sqlkeep_result_sizes sizes = {0, 0};
-    allocfunc allocate = (allocfunc)PyType_GetSlot((PyTypeObject *)rows_type, Py_tp_alloc);
-    rows *taken = (rows *)allocate((PyTypeObject *)rows_type, 0);
+    PyTypeObject *type = self->module->rows_type;
+    allocfunc allocate = (allocfunc)PyType_GetSlot(type, Py_tp_alloc);
+    rows *taken = (rows *)allocate(type, 0);
     if (taken == NULL) {
         return NULL;
     }
-    taken->thread = self->thread;
-    uint32_t status = sqlkeep_result_take(&self->handle, &taken->result);
-    if (status != SQLKEEP_OK) {
+    taken->module = self->module;
+    taken->own = own_begin(self->module);
+    uint32_t status = taken->own == NULL ? SQLKEEP_OK : sqlkeep_result_take(&self->own->handle, &taken->own->result);
+    if (taken->own == NULL || status != SQLKEEP_OK) {
         Py_DECREF(taken);
-        return failed(status);
+        return status == SQLKEEP_OK ? NULL : failed(self->module, status);
     }
-    sqlkeep_result_size(&taken->result, &sizes);
+    sqlkeep_result_size(&taken->own->result, &sizes);
     taken->count = (size_t)sizes.rows;
     taken->columns = (size_t)sizes.columns;
     return (PyObject *)taken;

@@ -31,7 +31,7 @@ static const char end_of_text[] = "\n;";
 static uint32_t run_at(engine *self, size_t place, sqlkeep_outcome *outcome) {
     uint32_t status;
     Py_BEGIN_ALLOW_THREADS
-    status = sqlkeep_execute(&self->handle, place, outcome);
+    status = sqlkeep_execute(&self->own->handle, place, outcome);
     Py_END_ALLOW_THREADS
     return status;
 }
@@ -40,11 +40,11 @@ static uint32_t run_at(engine *self, size_t place, sqlkeep_outcome *outcome) {
    do, it is executed without one, so that the last outcome is the first again. */
 static void run_again(engine *self, size_t place, const sqlkeep_outcome *first) {
     sqlkeep_outcome again = {SQLKEEP_DONE, 0, 0, 0};
-    self->has_work = sqlkeep_work(&self->handle, &self->work) == SQLKEEP_OK;
-    sqlkeep_explain(&self->handle, 1);
+    self->has_work = sqlkeep_work(&self->own->handle, &self->work) == SQLKEEP_OK;
+    sqlkeep_explain(&self->own->handle, 1);
     run_at(self, place, &again);
     if (again.kind != SQLKEEP_REFUSED || again.cause != first->cause || again.row != first->row) {
-        sqlkeep_explain(&self->handle, 0);
+        sqlkeep_explain(&self->own->handle, 0);
         run_at(self, place, &again);
     }
 }
@@ -59,7 +59,7 @@ static int set_and_take(PyObject *error, PyObject *name, PyObject *value) {
 /* Puts the lines of the last outcome into the error. Where memory is refused for them, it has none. */
 static void put_lines(engine *self, PyObject *error) {
     PyObject *lines = engine_lines(self, 1);
-    if (lines == NULL || PyObject_SetAttr(error, errors.lines, lines) != 0 || PyObject_SetAttr(error, errors.engine, Py_None) != 0) {
+    if (lines == NULL || PyObject_SetAttr(error, self->module->lines, lines) != 0 || PyObject_SetAttr(error, self->module->engine, Py_None) != 0) {
         PyErr_Clear();
     }
     Py_XDECREF(lines);
@@ -77,10 +77,10 @@ void engine_tell(engine *self) {
         if (is_again) {
             run_again(self, self->refused_place, &self->refused);
         } else {
-            sqlkeep_explain(&self->handle, 1);
+            sqlkeep_explain(&self->own->handle, 1);
         }
         put_lines(self, error);
-        sqlkeep_explain(&self->handle, self->explains);
+        sqlkeep_explain(&self->own->handle, self->explains);
         Py_DECREF(error);
     }
     Py_DECREF(reference);
@@ -92,21 +92,21 @@ static int tell_later(engine *self, PyObject *error, size_t place, const sqlkeep
     self->untold = PyWeakref_NewRef(error, NULL);
     self->refused = *outcome;
     self->refused_place = place;
-    return self->untold == NULL ? -1 : PyObject_SetAttr(error, errors.engine, (PyObject *)self);
+    return self->untold == NULL ? -1 : PyObject_SetAttr(error, self->module->engine, (PyObject *)self);
 }
 
 /* Raises the error of a refusal; NULL. It is told later, where that can be: an error of another thread than the main one may be
    read on yet another, where the session can't be asked. */
 static PyObject *refusal(engine *self, size_t place, const sqlkeep_outcome *outcome, bool is_told) {
-    PyObject *error = PyObject_CallObject(PyTuple_GetItem(errors.by_cause, (Py_ssize_t)outcome->cause), NULL);
-    bool is_made = error != NULL && set_and_take(error, errors.cause, PyLong_FromUnsignedLong(outcome->cause)) == 0;
-    is_made = is_made && (outcome->row == 0 || set_and_take(error, errors.row, PyLong_FromUnsignedLongLong(outcome->row)) == 0);
+    PyObject *error = PyObject_CallObject(PyTuple_GetItem(self->module->by_cause, (Py_ssize_t)outcome->cause), NULL);
+    bool is_made = error != NULL && set_and_take(error, self->module->cause, PyLong_FromUnsignedLong(outcome->cause)) == 0;
+    is_made = is_made && (outcome->row == 0 || set_and_take(error, self->module->row, PyLong_FromUnsignedLongLong(outcome->row)) == 0);
     bool is_last = outcome->cause == SQLKEEP_CAUSE_COMMIT_REFUSED || outcome->cause == SQLKEEP_CAUSE_OUT_OF_MEMORY;
     if (is_made && (is_told || is_last || self->explains)) {
         put_lines(self, error);
     } else if (is_made) {
         is_made = tell_later(self, error, place, outcome) == 0;
-        if (is_made && self->thread != errors.main_thread) {
+        if (is_made && PyThread_get_thread_ident() != self->module->main_thread) {
             engine_tell(self);
         }
     }
@@ -120,8 +120,8 @@ static PyObject *refusal(engine *self, size_t place, const sqlkeep_outcome *outc
 /* The rows of a query: few are copied at once, and many as they are asked for, unless the lines of the outcome are wanted too. */
 static PyObject *query(engine *self, const sqlkeep_outcome *outcome, bool is_told) {
     bool is_copied = outcome->count <= MOST_COPIED || is_told || self->explains;
-    PyObject *rows = is_copied ? rows_of(&self->handle, (size_t)outcome->count) : rows_taken(self);
-    PyObject *names = rows == NULL ? NULL : query_columns(&self->handle);
+    PyObject *rows = is_copied ? rows_of(self, (size_t)outcome->count) : rows_taken(self);
+    PyObject *names = rows == NULL ? NULL : query_columns(self);
     if (names == NULL) {
         Py_XDECREF(rows);
         return NULL;
@@ -158,22 +158,22 @@ static bool ends_statement(const char *text, size_t length) {
 }
 
 /* Why a text couldn't be read with its values. */
-static PyObject *not_read(uint32_t status) {
+static PyObject *not_read(const engine *self, uint32_t status) {
     if (status == SQLKEEP_WRONG_COUNT) {
         return Py_BuildValue("IK", ANSWER_COUNT, 0ULL);
     }
     if (status == SQLKEEP_NO_TEMPLATE) {
         return Py_BuildValue("IK", ANSWER_FAULT, 0ULL);
     }
-    return failed(status);
+    return failed(self->module, status);
 }
 
 /* Reads a text with the values that are bound. */
 static uint32_t read_bound(engine *self, const uint8_t *text, size_t length, sqlkeep_script *script) {
     Py_CLEAR(self->held);
-    uint32_t status = sqlkeep_read_bound(&self->handle, text, length, script);
+    uint32_t status = sqlkeep_read_bound(&self->own->handle, text, length, script);
     if (status != SQLKEEP_OK) {
-        sqlkeep_unbind(&self->handle);
+        sqlkeep_unbind(&self->own->handle);
     }
     return status;
 }
@@ -184,11 +184,11 @@ static PyObject *read_with(engine *self, const template *given, ending with, sql
     if (bytes_push(&self->text, given->text, given->length) != 0 || bytes_push(&self->text, end_of_text, (size_t)with) != 0) {
         return NULL;
     }
-    if (given->values != NULL && bind_values(&self->handle, given->values) != 0) {
+    if (given->values != NULL && bind_values(self, given->values) != 0) {
         return NULL;
     }
     uint32_t status = read_bound(self, self->text.at, self->text.length, script);
-    return status == SQLKEEP_OK ? NULL : not_read(status);
+    return status == SQLKEEP_OK ? NULL : not_read(self, status);
 }
 
 static bool is_one(const sqlkeep_script *script) {
@@ -199,6 +199,17 @@ static bool is_one(const sqlkeep_script *script) {
 static PyObject *not_one(const sqlkeep_script *script) {
     enum answer why = script->has_fault != 0 ? ANSWER_FAULT : script->statements == 0 ? ANSWER_EMPTY : ANSWER_MANY;
     return Py_BuildValue("IK", why, (unsigned long long)script->statements);
+}
+
+/* Whether the text that was read last, of which no statement is whole, is a semicolon without a statement. */
+static bool is_semicolon(engine *self, const template *given) {
+    sqlkeep_place place = {0, 0, 0, 0};
+    sqlkeep_script rest = {0, 0, 0};
+    if (sqlkeep_fault(&self->own->handle, &place) != SQLKEEP_OK || place.word != place.at || place.end > given->length || given->text[place.at] != ';') {
+        return false;
+    }
+    uint32_t status = sqlkeep_read(&self->own->handle, (const uint8_t *)given->text + place.end, given->length - (size_t)place.end, &rest);
+    return status == SQLKEEP_OK && rest.statements == 0 && rest.has_fault == 0;
 }
 
 /* Reads one statement of a text, which may lack its semicolon, and says which ending it was read with. NULL where there is one,
@@ -218,6 +229,9 @@ static PyObject *read_one(engine *self, const template *given, ending *with) {
     if (why != NULL || PyErr_Occurred() || is_one(&second)) {
         return why;
     }
+    if (first.statements == 0 && second.has_fault != 0 && is_semicolon(self, given)) {
+        return Py_BuildValue("IK", ANSWER_EMPTY, 0ULL);
+    }
     /* A semicolon that was put behind a text is no fault of its own. */
     return not_one(second.has_fault == 0 ? &second : &first);
 }
@@ -229,12 +243,12 @@ static PyObject *execute_read(engine *self, bool is_told) {
     sqlkeep_outcome outcome = {SQLKEEP_DONE, 0, 0, 0};
     self->has_work = false;
     if (is_told) {
-        sqlkeep_explain(&self->handle, 1);
+        sqlkeep_explain(&self->own->handle, 1);
     }
     uint32_t status = run_at(self, 0, &outcome);
-    PyObject *answer = status == SQLKEEP_OK ? engine_answer(self, 0, &outcome, is_told) : failed(status);
+    PyObject *answer = status == SQLKEEP_OK ? engine_answer(self, 0, &outcome, is_told) : failed(self->module, status);
     if (is_told) {
-        sqlkeep_explain(&self->handle, self->explains);
+        sqlkeep_explain(&self->own->handle, self->explains);
     }
     return answer;
 }
@@ -246,13 +260,14 @@ static PyObject *execute_template(engine *self, const template *given, bool is_t
 }
 
 /* The bytes of a text: a new reference to them, and where they are. */
-static PyObject *encoded(PyObject *text, template *given) {
+static PyObject *encoded(const engine *self, PyObject *text, template *given) {
     char *at;
     Py_ssize_t length;
     PyObject *held = PyUnicode_AsUTF8String(text);
+    if (held == NULL && PyErr_ExceptionMatches(PyExc_UnicodeEncodeError)) {
+        PyErr_SetString(self->module->programming, "the text has a surrogate, which UTF-8 can't hold");
+    }
     if (held == NULL) {
-        PyErr_Clear();
-        PyErr_SetString(errors.programming, "the text has a surrogate, which UTF-8 can't hold");
         return NULL;
     }
     if (PyBytes_AsStringAndSize(held, &at, &length) != 0) {
@@ -276,7 +291,7 @@ static void hold(engine *self, PyObject *text, PyObject *answer) {
 static PyObject *execute_new(engine *self, PyObject *text, PyObject *values, bool is_told) {
     ending with;
     template given = {NULL, 0, values};
-    PyObject *bytes_of_text = encoded(text, &given);
+    PyObject *bytes_of_text = encoded(self, text, &given);
     if (bytes_of_text == NULL) {
         return NULL;
     }
@@ -321,7 +336,7 @@ typedef struct many {
 } many;
 
 /* Item `at` of the list as a tuple; a new reference. */
-static PyObject *values_at(const many *work, Py_ssize_t at) {
+static PyObject *values_at(const engine *self, const many *work, Py_ssize_t at) {
     PyObject *item = PyList_GetItem(work->list, at);
     if (item == NULL) {
         return NULL;
@@ -333,7 +348,7 @@ static PyObject *values_at(const many *work, Py_ssize_t at) {
     if (PyList_Check(item)) {
         return PyList_AsTuple(item);
     }
-    PyErr_SetString(errors.programming, "a set of parameters is a tuple or a list");
+    PyErr_SetString(self->module->programming, "a set of parameters is a tuple or a list");
     return NULL;
 }
 
@@ -358,12 +373,12 @@ static int copy_template(many *work) {
 static size_t bind_many(engine *self, const many *work, size_t most, Py_ssize_t wanted) {
     size_t count = 0;
     while (count < most && work->at + (Py_ssize_t)count < work->size) {
-        PyObject *values = values_at(work, work->at + (Py_ssize_t)count);
-        bool is_bound = values != NULL && PyTuple_Size(values) == wanted && bind_values(&self->handle, values) == 0;
+        PyObject *values = values_at(self, work, work->at + (Py_ssize_t)count);
+        bool is_bound = values != NULL && PyTuple_Size(values) == wanted && bind_values(self, values) == 0;
         Py_XDECREF(values);
         if (!is_bound) {
             PyErr_Clear();
-            sqlkeep_unbind(&self->handle);
+            sqlkeep_unbind(&self->own->handle);
             return 0;
         }
         count++;
@@ -375,7 +390,7 @@ static size_t bind_many(engine *self, const many *work, size_t most, Py_ssize_t 
 static size_t execute_read_many(engine *self, size_t count, sqlkeep_outcome *last, unsigned long long *changed) {
     size_t place = 0;
     Py_BEGIN_ALLOW_THREADS
-    while (place < count && sqlkeep_execute(&self->handle, place, last) == SQLKEEP_OK && last->kind == SQLKEEP_CHANGED) {
+    while (place < count && sqlkeep_execute(&self->own->handle, place, last) == SQLKEEP_OK && last->kind == SQLKEEP_CHANGED) {
         *changed += last->count;
         place++;
     }
@@ -392,7 +407,7 @@ static PyObject *execute_some(engine *self, many *work, Py_ssize_t wanted, bool 
     *was_read = count > 0 && read_bound(self, work->text.at, count * length_of_copy(work), &script) == SQLKEEP_OK;
     *was_read = *was_read && script.statements == count && script.has_fault == 0;
     if (!*was_read) {
-        sqlkeep_unbind(&self->handle);
+        sqlkeep_unbind(&self->own->handle);
         return NULL;
     }
     self->has_work = false;
@@ -443,7 +458,7 @@ static bool execute_group(engine *self, many *work, Py_ssize_t wanted) {
 
 /* Executes one statement. NULL where it was accepted or with an exception, otherwise its answer. */
 static PyObject *execute_next(engine *self, many *work) {
-    PyObject *values = values_at(work, work->at);
+    PyObject *values = values_at(self, work, work->at);
     if (values == NULL) {
         return NULL;
     }
@@ -460,8 +475,8 @@ static PyObject *execute_next(engine *self, many *work) {
 }
 
 /* How many values the first statement had. */
-static Py_ssize_t count_of_values(const many *work) {
-    PyObject *first = values_at(work, 0);
+static Py_ssize_t count_of_values(const engine *self, const many *work) {
+    PyObject *first = values_at(self, work, 0);
     Py_ssize_t count = first == NULL ? -1 : PyTuple_Size(first);
     Py_XDECREF(first);
     PyErr_Clear();
@@ -474,7 +489,7 @@ static PyObject *execute_step(engine *self, many *work) {
     if (work->at == 0 || self->explains || work->size - work->at == 1) {
         return execute_next(self, work);
     }
-    Py_ssize_t wanted = count_of_values(work);
+    Py_ssize_t wanted = count_of_values(self, work);
     if (work->row_to > 0 && execute_group(self, work, wanted)) {
         return NULL;
     }
@@ -500,7 +515,7 @@ static PyObject *execute_list(engine *self, many *work) {
 
 /* Executes a text once for each item of a list. */
 static PyObject *execute_all(engine *self, PyObject *text, many *work) {
-    PyObject *bytes_of_text = encoded(text, &work->given);
+    PyObject *bytes_of_text = encoded(self, text, &work->given);
     if (bytes_of_text == NULL) {
         return NULL;
     }

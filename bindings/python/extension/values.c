@@ -1,87 +1,88 @@
 /* Values: those that are bound to a template, and those of rows. */
-#include "shared.h"
+#include "engine.h"
 
 #include <string.h>
 
-static int bind_text(sqlkeep *handle, PyObject *value, size_t number) {
+static int bind_text(engine *self, PyObject *value, size_t number) {
     char *text;
     Py_ssize_t length;
     PyObject *encoded = PyUnicode_AsUTF8String(value);
+    if (encoded == NULL && PyErr_ExceptionMatches(PyExc_UnicodeEncodeError)) {
+        PyErr_Format(self->module->data, "parameter %zu is a text with a surrogate, which UTF-8 can't hold", number);
+    }
     if (encoded == NULL) {
-        PyErr_Clear();
-        PyErr_Format(errors.data, "parameter %zu is a text with a surrogate, which UTF-8 can't hold", number);
         return -1;
     }
     uint32_t status = SQLKEEP_NO_MEMORY;
     if (PyBytes_AsStringAndSize(encoded, &text, &length) == 0) {
-        status = sqlkeep_bind_text(handle, (const uint8_t *)text, (size_t)length);
+        status = sqlkeep_bind_text(&self->own->handle, (const uint8_t *)text, (size_t)length);
     }
     Py_DECREF(encoded);
     if (status != SQLKEEP_OK && !PyErr_Occurred()) {
-        failed(status);
+        failed(self->module, status);
     }
     return status == SQLKEEP_OK ? 0 : -1;
 }
 
-static int bind_integer(sqlkeep *handle, PyObject *value, size_t number) {
+static int bind_integer(engine *self, PyObject *value, size_t number) {
     int beyond;
     long long integer = PyLong_AsLongLongAndOverflow(value, &beyond);
     if (beyond != 0) {
-        PyErr_Format(errors.data, "parameter %zu is an integer of more than 64 bits", number);
+        PyErr_Format(self->module->data, "parameter %zu is an integer of more than 64 bits", number);
         return -1;
     }
     if (integer == -1 && PyErr_Occurred()) {
         return -1;
     }
-    uint32_t status = sqlkeep_bind_integer(handle, integer);
-    return status == SQLKEEP_OK ? 0 : (failed(status), -1);
+    uint32_t status = sqlkeep_bind_integer(&self->own->handle, integer);
+    return status == SQLKEEP_OK ? 0 : (failed(self->module, status), -1);
 }
 
 /* Binds a value; `number` counts the parameters from 1. */
-static int bind_value(sqlkeep *handle, PyObject *value, size_t number) {
+static int bind_value(engine *self, PyObject *value, size_t number) {
     if (PyLong_Check(value)) {
-        return bind_integer(handle, value, number);
+        return bind_integer(self, value, number);
     }
     if (PyUnicode_Check(value)) {
-        return bind_text(handle, value, number);
+        return bind_text(self, value, number);
     }
     if (value == Py_None) {
-        uint32_t status = sqlkeep_bind_null(handle);
-        return status == SQLKEEP_OK ? 0 : (failed(status), -1);
+        uint32_t status = sqlkeep_bind_null(&self->own->handle);
+        return status == SQLKEEP_OK ? 0 : (failed(self->module, status), -1);
     }
     PyObject *name = PyObject_GetAttrString((PyObject *)Py_TYPE(value), "__name__");
     if (name != NULL) {
-        PyErr_Format(errors.programming, "parameter %zu is of type %U; a value is an int, a str or None", number, name);
+        PyErr_Format(self->module->programming, "parameter %zu is of type %S; a value is an int, a str or None", number, name);
         Py_DECREF(name);
     }
     return -1;
 }
 
-int bind_values(sqlkeep *handle, PyObject *values) {
+int bind_values(engine *self, PyObject *values) {
     Py_ssize_t count = PyTuple_Size(values);
     for (Py_ssize_t at = 0; at < count; at++) {
-        if (bind_value(handle, PyTuple_GetItem(values, at), (size_t)at + 1) != 0) {
-            sqlkeep_unbind(handle);
+        if (bind_value(self, PyTuple_GetItem(values, at), (size_t)at + 1) != 0) {
+            sqlkeep_unbind(&self->own->handle);
             return -1;
         }
     }
     return 0;
 }
 
-static PyObject *long_text(sqlkeep *handle, size_t row, size_t column, size_t length, read_text *read) {
+static PyObject *long_text(engine *self, size_t row, size_t column, size_t length, read_text *read) {
     size_t copied = 0;
     PyObject *held = PyBytes_FromStringAndSize(NULL, (Py_ssize_t)length);
     if (held == NULL) {
         return NULL;
     }
     char *to = PyBytes_AsString(held);
-    read(handle, row, column, 0, (uint8_t *)to, length, &copied);
+    read(&self->own->handle, row, column, 0, (uint8_t *)to, length, &copied);
     PyObject *text = PyUnicode_DecodeUTF8(to, (Py_ssize_t)copied, "strict");
     Py_DECREF(held);
     return text;
 }
 
-PyObject *value_of(sqlkeep *handle, const sqlkeep_cell *cell, size_t row, size_t column, read_text *read) {
+PyObject *value_of(engine *self, const sqlkeep_cell *cell, size_t row, size_t column, read_text *read) {
     char to[256];
     size_t copied = 0;
     if (cell->kind == SQLKEEP_INTEGER) {
@@ -92,9 +93,9 @@ PyObject *value_of(sqlkeep *handle, const sqlkeep_cell *cell, size_t row, size_t
         return Py_None;
     }
     if (cell->length > sizeof to) {
-        return long_text(handle, row, column, (size_t)cell->length, read);
+        return long_text(self, row, column, (size_t)cell->length, read);
     }
-    read(handle, row, column, 0, (uint8_t *)to, sizeof to, &copied);
+    read(&self->own->handle, row, column, 0, (uint8_t *)to, sizeof to, &copied);
     return PyUnicode_DecodeUTF8(to, (Py_ssize_t)copied, "strict");
 }
 
@@ -149,10 +150,10 @@ static int put_rows(PyObject *list, size_t from, size_t rows, size_t columns, co
 }
 
 /* Copies all rows, as many at a time as there is room for. */
-static int copy_rows(sqlkeep *handle, PyObject *list, size_t count, size_t columns, struct room *room) {
+static int copy_rows(engine *self, PyObject *list, size_t count, size_t columns, struct room *room) {
     sqlkeep_taken taken = {0, 0};
     for (size_t from = 0; from < count; from += (size_t)taken.rows) {
-        sqlkeep_rows(handle, from, room->cells, room->count, room->texts, room->size, &taken);
+        sqlkeep_rows(&self->own->handle, from, room->cells, room->count, room->texts, room->size, &taken);
         if (taken.rows == 0 && enlarge(room) != 0) {
             return -1;
         }
@@ -183,11 +184,11 @@ void room_free(struct room *room) {
 }
 
 /* So with buffers of its own. */
-static int copy_all(sqlkeep *handle, PyObject *list, size_t count, size_t columns) {
+static int copy_all(engine *self, PyObject *list, size_t count, size_t columns) {
     struct room room = {NULL, NULL, 0, 0};
     int failed = room_make(&room, columns);
     if (failed == 0) {
-        failed = copy_rows(handle, list, count, columns, &room);
+        failed = copy_rows(self, list, count, columns, &room);
     }
     room_free(&room);
     return failed;
@@ -209,14 +210,14 @@ PyObject *some_rows(sqlkeep_result *result, size_t from, size_t columns, struct 
     return list;
 }
 
-PyObject *rows_of(sqlkeep *handle, size_t count) {
+PyObject *rows_of(engine *self, size_t count) {
     size_t columns = 0;
     PyObject *list = PyList_New((Py_ssize_t)count);
     if (list == NULL || count == 0) {
         return list;
     }
-    sqlkeep_columns(handle, 0, &columns);
-    if (copy_all(handle, list, count, columns) != 0) {
+    sqlkeep_columns(&self->own->handle, 0, &columns);
+    if (copy_all(self, list, count, columns) != 0) {
         Py_DECREF(list);
         return NULL;
     }

@@ -167,7 +167,7 @@ class Faults(unittest.TestCase):
             ("SELECT * FROM t\nWHERE a = 'x", 2, 11, "'x (a text doesn't end)"),
             ("SELECT a / 2 FROM t", 1, 10, "/ 2 FROM t (no word begins so)"),
             ("INSERT INTO t VALUES (9223372036854775808)", 1, 23, "9223372036854775808) (a name or a number is too long)"),
-            (";", 1, 1, "; (there is no statement before the semicolon)"),
+            (";;", 1, 1, ";; (there is no statement before the semicolon)"),
             ("SELECT * FROM t; SELEKT", 1, 18, "SELEKT (did you mean SELECT?)"),
             ("SELECT 1", 1, 1, "SELECT 1 (a SELECT has a FROM)"),
             ("SELECT a FROM t ORDER BY a", 1, 17, "ORDER BY a (there is no ORDER BY)"),
@@ -314,6 +314,41 @@ class Telling(unittest.TestCase):
         self.assertEqual((error.constraint, error.row, error.table, str(error)), ("T_C1", 1, None, "Violation of T_C1: row 1: a constraint is violated"))
 
 
+class Shown(unittest.TestCase):
+    """repr() and args say what str() does."""
+
+    def test_a_refusal(self):
+        connection = sqlkeep.connect()
+        connection.execute("CREATE TABLE t (a INT CHECK (a > 0))")
+        for error in (refusal(connection.execute, "INSERT INTO t VALUES (0)"), pickle.loads(pickle.dumps(refusal(connection.execute, "INSERT INTO t VALUES (0)")))):
+            wanted = "Violation of T_C1 (CHECK): T row 1 (0) makes A > 0 false (0 > 0)"
+            self.assertEqual((repr(error), error.args, "%r" % error), (f"IntegrityError('{wanted}')", (wanted,), f"IntegrityError('{wanted}')"))
+
+    def test_others(self):
+        connection = sqlkeep.connect()
+        error = refusal(connection.executescript, "COMMIT; SELEKT;")
+        wanted = "statement 2: no statement at line 1, column 9: SELEKT; (did you mean SELECT?)"
+        self.assertEqual((str(error), error.args, error.reason), (wanted, (wanted,), "did you mean SELECT?"))
+        again = pickle.loads(pickle.dumps(error))
+        self.assertEqual((str(again), again.args, again.reason, again.line, again.column), (wanted, (wanted,), "did you mean SELECT?", 1, 9))
+        connection.close()
+        self.assertEqual(repr(refusal(connection.commit)), "ProgrammingError('the connection is closed')")
+
+    def test_what_somebody_else_made(self):
+        error = sqlkeep.IntegrityError("x", 5)
+        self.assertEqual((repr(error), error.args, str(error)), ("IntegrityError('x', 5)", ("x", 5), "('x', 5)"))
+        error.args = (7,)
+        self.assertEqual((repr(error), error.args, str(error)), ("IntegrityError(7)", (7,), "7"))
+
+    def test_a_long_number_is_a_fault(self):
+        session, text = sqlkeep.Session(), f"SELECT {'9' * 5000} FROM t"
+        connection = sqlkeep.connect()
+        for call in (session.execute, session.script, session.parts, connection.execute, connection.executescript):
+            error = refusal(call, text)
+            self.assertIsInstance(error, sqlkeep.ProgrammingError)
+            self.assertEqual((error.line, error.column, error.reason), (1, 8, "a name or a number is too long"))
+
+
 class Names(unittest.TestCase):
     def test_in_a_traceback(self):
         done = subprocess.run([sys.executable, "-c", "import sqlkeep; sqlkeep.connect().execute('SELECT * FROM t')"], capture_output=True, text=True, timeout=60, check=False)
@@ -351,7 +386,7 @@ class Threads(unittest.TestCase):
         thread = threading.Thread(target=work)
         thread.start()
         thread.join()
-        self.assertEqual(texts, ["the connection was opened on thread " + texts[0][36]] * 9)
+        self.assertEqual(texts, ["the connection was opened on another "] * 9)
         connection.execute("COMMIT")
 
     def test_each_thread_has_its_own(self):

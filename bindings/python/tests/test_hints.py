@@ -5,7 +5,8 @@ from pathlib import Path
 
 import sqlkeep
 from sqlkeep.hints import hint_of
-from sqlkeep.text import is_whole, tokens
+from sqlkeep.shell.typed import Typed
+from sqlkeep.text import tokens
 
 ROOT = Path(os.environ.get("SQLKEEP_ROOT", Path(__file__).resolve().parents[3]))
 # A faulty text, the reason, and the word that it is about.
@@ -60,6 +61,12 @@ class Hints(unittest.TestCase):
             session.execute(text).check()
 
 
+def is_whole(text):
+    """Whether a text is whole when its last line was typed."""
+    typed = Typed()
+    return [typed.add(line) for line in text.split("\n")][-1]
+
+
 class Whole(unittest.TestCase):
     def test_each(self):
         for text, wanted in [
@@ -67,6 +74,9 @@ class Whole(unittest.TestCase):
             ("SELECT 'it''s' FROM t;", True), ("SELECT 'it''s FROM t;", False), ("SELECT a -- ;", False), ("SELECT a -- ;\n;", True), ("SELECT \"a\"", True), ("@", True),
             ("CREATE TRIGGER r AFTER INSERT ON t BEGIN ATOMIC DELETE FROM u;", False), ("CREATE TRIGGER r AFTER INSERT ON t BEGIN ATOMIC DELETE FROM u; END", False),
             ("CREATE TRIGGER r AFTER INSERT ON t BEGIN ATOMIC DELETE FROM u; END;", True), ("BEGIN;", True), ("END;", True), ("SELECT 99999999999999999999;", True),
+            ("SELECT 9223372036854775808", True), ("SELECT 00009223372036854775807", False), ("SELECT 'a''", False), ("SELECT 'a''\n;", False), ("SELECT 'a''\nb';", True), ("SELECT 'a\n''\n;", False),
+            ("SELECT 'a\n'';\n';", True), ("CREATE TRIGGER r\nAFTER INSERT ON t BEGIN ATOMIC\nDELETE FROM u;", False), ("CREATE TRIGGER r\nBEGIN ATOMIC\nDELETE FROM u;\nEND;", True), ("SELECT\n@", False),
+            ("SELECT\n@\n;", True), ("\n", True), ("'\n;", False),
         ]:
             with self.subTest(text):
                 self.assertEqual(is_whole(text), wanted)
@@ -74,10 +84,10 @@ class Whole(unittest.TestCase):
     def test_each_beginning_of_the_examples(self):
         """Line by line, as they are typed: the text is whole exactly where the engine reads nothing but whole statements."""
         for path in sorted((ROOT / "examples").glob("*.sql")):
-            session, typed = sqlkeep.Session(), ""
+            session, typed, text = sqlkeep.Session(), Typed(), ""
             for line in path.read_text("utf-8").splitlines():
-                typed += line + "\n"
-                self.assertEqual(is_whole(typed), session._engine.read(typed.encode())[1] is None, typed)
+                text += line + "\n"
+                self.assertEqual(typed.add(line), not session._engine.read(text.encode())[1], text)
 
 
 if __name__ == "__main__":

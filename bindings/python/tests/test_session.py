@@ -6,7 +6,7 @@ from pathlib import Path
 
 import sqlkeep
 from sqlkeep import Column, Constraint, StoredRow, TriggerDefinition
-from sqlkeep.text import is_whole, statements
+from sqlkeep.text import spans
 
 ROOT = Path(os.environ.get("SQLKEEP_ROOT", Path(__file__).resolve().parents[3]))
 SCRIPTS = sorted(path for folder in ("examples", "tests/scripts") for path in (ROOT / folder).glob("*.sql"))
@@ -45,7 +45,7 @@ class Scripts(unittest.TestCase):
                 continue
             wanted, text = sqlkeep.parse_transcript(account.read_bytes().decode()), path.read_bytes().decode()
             with self.subTest(path.name), sqlkeep.Session(**words_of(path), explain=True) as session:
-                parts = [text[start:end] for start, end in statements(text)][: len(wanted.answers)]
+                parts = [text[start:end] for start, end in spans(text)][: len(wanted.answers)]
                 outcomes = [session.execute(part) for part in parts]
                 self.assertEqual([str(outcome.account) for outcome in outcomes], [str(answer.account) for answer in wanted.answers])
                 self.assertEqual([outcome.rows for outcome in outcomes], [None if answer.rows is None else list(answer.rows) for answer in wanted.answers])
@@ -63,11 +63,19 @@ class Scripts(unittest.TestCase):
             with self.subTest(path.name), sqlkeep.Session() as session:
                 run = session.run(text) if len(text.encode()) <= 1_048_576 else None
                 if run is not None and run.fault is None:
-                    self.assertEqual(len(statements(text)), run.accepted + run.refused)
-                    self.assertTrue(is_whole(text))
+                    self.assertEqual(len(spans(text)), run.accepted + run.refused)
+                    self.assertEqual(session.parts(text), [text[start:end] for start, end in spans(text)])
                 elif run is not None:
-                    ends = [end for _, end in statements(text) if len(text[:end].encode()) <= run.fault]
+                    ends = [end for _, end in spans(text) if len(text[:end].encode()) <= run.fault]
                     self.assertEqual(len(ends), run.accepted + run.refused)
+
+    def test_parameters_are_a_sequence(self):
+        session = sqlkeep.Session()
+        session.execute("CREATE TABLE t (a INT, b INT)").check()
+        self.assertEqual(session.execute("INSERT INTO t VALUES (?, ?)", (number for number in (1, 2))).count, 1)
+        for given in ("12", b"12", {1: 2, 3: 4}, 12, None):
+            with self.assertRaisesRegex(sqlkeep.ProgrammingError, "the parameters are a sequence"):
+                session.execute("INSERT INTO t VALUES (?, ?)", given)
 
     def test_run_counts(self):
         run = sqlkeep.Session().run("CREATE TABLE t (a INT CHECK (a > 0)); INSERT INTO t VALUES (0); INSERT INTO t VALUES (1); SELEKT")
@@ -185,6 +193,15 @@ class Dumps(unittest.TestCase):
             COMMIT;
             CREATE TRIGGER gone AFTER DELETE ON shelf BEGIN ATOMIC DELETE FROM book WHERE number IS NULL; SIGNAL 'no'; END;""")
         return connection
+
+    def test_a_database_that_no_dump_makes_again(self):
+        """Its rows need two INSERTs, so the foreign key comes after NOT NULL, and both have generated names that are too long to be written."""
+        session, name = sqlkeep.Session(), "n" * 127
+        session.execute(f"CREATE TABLE {name} (a INT PRIMARY KEY, b INT REFERENCES {name}, c VARCHAR(4000) NOT NULL)").check()
+        session._engine.execute_many(f"INSERT INTO {name} VALUES (?, NULL, ?)", [(number, "x" * 4000) for number in range(400)], 0, 0)
+        session.commit()
+        with self.assertRaisesRegex(sqlkeep.OperationalError, "^what was written doesn't make the same again$"):
+            session.dump()
 
     def test_a_dump_makes_the_database_again(self):
         first, second = self.filled().session, sqlkeep.Session()

@@ -1,6 +1,7 @@
 """The same calls with sqlkeep and with Python's sqlite3, side by side: what each answers, or the class of what it raises.
 
 `ALIKE` answers the same. `OTHERWISE` has what differs, with both answers."""
+import copy
 import sqlite3
 import unittest
 
@@ -69,7 +70,34 @@ def looking_generator(c):
     return seen
 
 
+def made_by(c, factory, of_cursor=False):
+    """A connection, or a cursor of it, with a row factory."""
+    c = c.cursor() if of_cursor else c
+    c.row_factory = factory
+    return c
+
+
+def raised(call):
+    try:
+        call()
+    except Exception as error:  # pylint: disable=broad-except
+        return type(error).__name__
+
+
 ALIKE = {
+    "rows by name": lambda c, m: [(row["name"], row["BORN"], row[0], row[-1], row[0:1], tuple(row), len(row), list(row)) for row in made_by(c, m.Row).execute("SELECT name, born FROM author")],
+    "a name that comes twice": lambda c, m: made_by(c, m.Row).execute("SELECT born, name, born FROM author").fetchone()["born"],
+    "a name that isn't there": lambda c, m: (raised(lambda: made_by(c, m.Row).execute("SELECT * FROM author").fetchone()["x"]), raised(lambda: made_by(c, m.Row).execute("SELECT * FROM author").fetchone()[9])),
+    "names of a row": lambda c, m: [name.lower() for name in made_by(c, m.Row).execute("SELECT name, born FROM author").fetchone().keys()],
+    "equal rows": lambda c, m: (lambda one, two: (one == two, hash(one) == hash(two)))(*[made_by(c, m.Row).execute("SELECT name FROM author").fetchone() for _ in range(2)]),
+    "rows by a callable": lambda c, m: made_by(c, lambda cursor, row: (len(cursor.description), *row)).execute("SELECT name, born FROM author").fetchall(),
+    "a factory of a cursor": lambda c, m: (made_by(c, lambda cursor, row: row[0], True).execute("SELECT born FROM author").fetchmany(2), c.row_factory, c.execute("SELECT born FROM author").fetchone()),
+    "a cursor keeps the factory of its beginning": lambda c, m: (lambda cursor: (made_by(c, lambda cursor, row: "x") and None, cursor.execute("SELECT born FROM author").fetchone()))(c.cursor()),
+    "a factory that is set between rows": lambda c, m: (lambda k: (k.fetchone(), made_by(k, m.Row, False) and k.fetchone()["name"], k.fetchone()))(c.cursor().execute("SELECT name FROM author")),
+    "a factory that raises": lambda c, m: raised(lambda: made_by(c, lambda cursor, row: 1 // 0).execute("SELECT * FROM author").fetchone()),
+    "an attribute that there isn't": lambda c, m: raised(lambda: setattr(c, "nonsense", 1)),
+    "a copy": lambda c, m: (raised(lambda: copy.copy(c)), raised(lambda: copy.deepcopy(c)), raised(lambda: copy.copy(c.cursor()))),
+    "a semicolon alone": lambda c, m: [c.execute(text).fetchall for text in (";", " ; ")] and None,
     "execute gives a cursor": lambda c, m: isinstance(c.execute("SELECT * FROM author"), m.Cursor),
     "rows are tuples": lambda c, m: c.execute("SELECT name, born FROM author").fetchall(),
     "a query without rows": lambda c, m: c.execute("SELECT name FROM author WHERE born = 1").fetchall(),

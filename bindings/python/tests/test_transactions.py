@@ -122,6 +122,27 @@ class Savepoints(unittest.TestCase):
                 raise KeyError
         self.assertEqual((keys(self.connection), self.connection.in_transaction), ([1], True))
 
+    def test_blocks_without_names(self):
+        with self.connection.savepoint():
+            self.connection.execute("INSERT INTO p VALUES (1)")
+            with self.assertRaises(KeyError), self.connection.savepoint():
+                self.connection.execute("INSERT INTO p VALUES (2)")
+                raise KeyError
+            with self.connection.savepoint():
+                self.connection.execute("INSERT INTO p VALUES (3)")
+        self.assertEqual(keys(self.connection), [1, 3])
+
+    def test_names_are_folded_as_the_engine_does(self):
+        """Only the letters from a to z have a capital."""
+        session = self.connection.session
+        for text in ("START TRANSACTION", "SAVEPOINT ss", "INSERT INTO p VALUES (1)"):
+            session.execute(text).check()
+        for name in ("\xdf", "\u017f\u017f"):
+            self.assertEqual(session.rollback_to(name).error.cause, 7)
+        self.assertEqual(keys(self.connection), [1])
+        session.rollback_to("sS").check()
+        self.assertEqual(keys(self.connection), [])
+
     def test_one_in_another(self):
         with self.connection.savepoint("outer_one"):
             self.connection.execute("INSERT INTO p VALUES (1)")

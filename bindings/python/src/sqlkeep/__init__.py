@@ -25,14 +25,14 @@ from .errors import (
 
 TYPE_CHECKING = False
 if TYPE_CHECKING:
-    from .account import Account, Action, Change, NameFault, Nested, Reason, Skipped, Trigger, Violation, parse_account
+    from .account import Account, Action, Change, NameFault, Nested, Reason, Savepoints, Skipped, Trigger, Violation, parse_account
     from .catalogue import Catalogue, Column, Constraint, Table, TriggerDefinition
+    from .row import Row
     from .session import Outcome, Pending, Run, Session, StoredRow, Work
     from .transcript import Answer, Fault, Refusal, Settled, Transcript, parse_transcript
     from .type_objects import (
         BINARY, DATETIME, NUMBER, ROWID, STRING, Binary, Date, DateFromTicks, Time, TimeFromTicks, Timestamp, TimestampFromTicks,
     )
-
 
 
 def main_thread() -> int:
@@ -59,6 +59,7 @@ is_proved = PROVED
 LATER = {
     "account": ("Account", "Action", "Change", "NameFault", "Nested", "Reason", "Savepoints", "Skipped", "Trigger", "Violation", "parse_account"),
     "catalogue": ("Catalogue", "Column", "Constraint", "Table", "TriggerDefinition"),
+    "row": ("Row",),
     "session": ("Outcome", "Pending", "Run", "Session", "StoredRow", "Work"),
     "transcript": ("Answer", "Fault", "Refusal", "Settled", "Transcript", "parse_transcript"),
     "type_objects": ("BINARY", "DATETIME", "NUMBER", "ROWID", "STRING", "Binary", "Date", "DateFromTicks", "Time", "TimeFromTicks", "Timestamp", "TimestampFromTicks"),
@@ -67,7 +68,7 @@ LATER = {
 __all__ = [
     "Account", "Action", "Answer", "BINARY", "Binary", "Catalogue", "Change", "Column", "Connection", "Constraint", "Cursor", "DATETIME", "DataError",
     "DatabaseError", "Date", "DateFromTicks", "Error", "Fault", "IntegrityError", "InterfaceError", "InternalError", "LEGACY_TRANSACTION_CONTROL",
-    "NUMBER", "NameFault", "Nested", "NotSupportedError", "OperationalError", "Outcome", "Pending", "ProgrammingError", "ROWID", "Reason", "Refusal", "Run",
+    "NUMBER", "NameFault", "Nested", "NotSupportedError", "OperationalError", "Outcome", "Pending", "ProgrammingError", "ROWID", "Reason", "Refusal", "Row", "Run",
     "STRING", "Savepoints", "Session", "Settled", "Skipped", "StoredRow", "Table", "Time", "TimeFromTicks", "Timestamp", "TimestampFromTicks", "Transcript", "Trigger", "TriggerDefinition", "Violation",
     "Warning", "Work", "apilevel", "connect", "is_proved", "paramstyle", "parse_account", "parse_transcript", "threadsafety",
 ]

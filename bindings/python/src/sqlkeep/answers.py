@@ -9,7 +9,7 @@ if TYPE_CHECKING:
 
     from ._engine import Engine
 
-__all__ = ["CHANGED", "DONE", "EMPTY", "ROWS", "columns_of", "encoded", "error_of", "fault_in", "fault_place"]
+__all__ = ["CHANGED", "DONE", "EMPTY", "ROWS", "columns_of", "encoded", "error_of", "fault_in"]
 
 # What the engine answers: kinds of an outcome, and why nothing was executed. It raises the error of a refusal.
 DONE, CHANGED, ROWS, _, FAULT, COUNT, MANY, EMPTY = range(8)
@@ -54,33 +54,33 @@ def wrong_word(text: str, engine: Engine) -> tuple[int, int] | None:
     return None if found is None else (len(data[: found[0]].decode()), len(data[: found[1]].decode()))
 
 
-def fault_place(text: str, whole: int, engine: Engine) -> tuple[int, int, str, str]:
+def fault_of(text: str, whole: int, word: tuple[int, int] | None) -> tuple[int, str]:
     """Where something of a text is left, behind so many whole statements, that is no statement: at the place where no word begins, or
-    at the word that a hint is about, or at the first word that can't stand where it does. The line, the column, the words there, and
-    what is probably the matter, which may be empty."""
+    at the word that a hint is about, or at the first word that can't stand where it does; and what is probably the matter, which may be empty."""
     from .hints import hint_of  # pylint: disable=import-outside-toplevel
-    from .text import lexical_fault, place_of, statements, tokens  # pylint: disable=import-outside-toplevel
+    from .text import lexical_fault, spans, tokens  # pylint: disable=import-outside-toplevel
 
-    spans = statements(text)
-    behind = spans[whole - 1][1] if 0 < whole <= len(spans) else 0
-    end = spans[whole][1] if whole < len(spans) else len(text)
+    places = spans(text)
+    behind = places[whole - 1][1] if 0 < whole <= len(places) else 0
+    end = places[whole][1] if whole < len(places) else len(text)
     rest = [token for token in tokens(text) if behind <= token.start < end]
     if not rest:
-        return (*place_of(text, len(text)), "there is no statement")
+        return len(text), "there is no statement"
     if rest[-1].kind == "fault":
-        return (*place_of(text, rest[-1].start), lexical_fault(rest[-1]))
+        return rest[-1].start, lexical_fault(rest[-1])
     hint = hint_of(rest)
     if hint is not None:
-        return (*place_of(text, hint.token.start), hint.reason)
-    word = wrong_word(text, engine)
-    return (*place_of(text, rest[0].start if word is None else word[0]), "")
+        return hint.token.start, hint.reason
+    return rest[0].start if word is None else word[0], ""
 
 
 def fault_in(text: str, whole: int, engine: Engine, statement: int | None = None) -> ProgrammingError:
     """The error of such a text."""
-    line, column, words, reason = fault_place(text, whole, engine)
+    from .text import place_of  # pylint: disable=import-outside-toplevel
+
     word = wrong_word(text, engine)
-    error = faulted((f": {words}" if words else "") + (f" ({reason})" if reason else ""), line, column, statement)
+    at, reason = fault_of(text, whole, word)
+    error = faulted(at, reason, place_of(text, at), statement)
     error.word = None if word is None else text[word[0] : word[1]]
     return error
 

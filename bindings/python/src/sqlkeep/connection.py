@@ -1,19 +1,21 @@
 """Connections of the DB-API."""
 from __future__ import annotations
 
+from itertools import count
+
 from . import errors
 from ._engine import Engine
 from .answers import CHANGED, DONE, error_of
 from .cursor import Cursor, values_of
 from .groups import row_of_values
 from .plans import COMMIT, DATA, WANTS_TRANSACTION, plan_of, plans
-from .text import statements
 
 TYPE_CHECKING = False
 if TYPE_CHECKING:
     from types import TracebackType
     from typing import Any, Iterable, Iterator, Literal, Sequence
 
+    from .cursor import RowFactory
     from .session import Outcome, Pending, Session
     from .values import Value
 
@@ -26,6 +28,8 @@ LEGACY_TRANSACTION_CONTROL = -1
 FEWEST_GROUPED = 8
 # What `executemany` may take at once: no code of the caller runs between two statements.
 PLAIN = (list, tuple)
+# Of savepoints without a name.
+NUMBERS = count(1)
 
 
 class Connection:
@@ -45,11 +49,20 @@ class Connection:
     ProgrammingError = errors.ProgrammingError
     NotSupportedError = errors.NotSupportedError
 
+    __slots__ = ("__weakref__", "_autocommit", "_engine", "_session", "row_factory")
+
+    #: What makes the rows that a new cursor gives, of the cursor and a tuple, as `Row`; None for the tuples.
+    row_factory: RowFactory | None
+
     def __init__(self, engine: Engine, autocommit: bool | int = LEGACY_TRANSACTION_CONTROL) -> None:
+        self.row_factory = None
         self._engine = engine
         self._session: Session | None = None
         self._autocommit: bool | int = LEGACY_TRANSACTION_CONTROL
         self.autocommit = autocommit
+
+    def __reduce__(self) -> Any:
+        raise TypeError("a connection can't be copied or pickled; iterdump has the statements that make its database again")
 
     def __enter__(self) -> Connection:
         return self
@@ -81,9 +94,9 @@ class Connection:
 
     @autocommit.setter
     def autocommit(self, mode: bool | int) -> None:
-        self.set_autocommit(mode)
+        self._set_autocommit(mode)
 
-    def set_autocommit(self, mode: bool | int) -> None:
+    def _set_autocommit(self, mode: bool | int) -> None:
         """Sets `autocommit`."""
         if mode not in (True, False, LEGACY_TRANSACTION_CONTROL):
             raise errors.ProgrammingError("autocommit is True, False or LEGACY_TRANSACTION_CONTROL")
@@ -110,7 +123,7 @@ class Connection:
         if type(operation) is str and type(parameters) is tuple and self._autocommit is not True and plans.get(operation, COMMIT) <= DATA:
             # The short way of a statement that was seen before.
             answer = self._engine.execute(operation, parameters, False)
-            return Cursor(self).take(operation, parameters, answer)
+            return Cursor(self)._take(operation, parameters, answer)
         return Cursor(self).execute(operation, parameters)
 
     def executemany(self, operation: str, parameters: Iterable[Sequence[Value]]) -> Cursor:
@@ -146,12 +159,14 @@ class Connection:
         if self._autocommit is not True:
             self._engine.rollback()
 
-    def savepoint(self, name: str) -> Savepoint:
-        """A savepoint for a block: `with connection.savepoint("name"):`. It is released where the block ends, and gone back to
+    def savepoint(self, name: str | None = None) -> Savepoint:
+        """A savepoint for a block: `with connection.savepoint():`. It is released where the block ends, and gone back to
         where the block raises."""
         from .text import is_name  # pylint: disable=import-outside-toplevel
 
-        if not is_name(name):
+        if name is None:
+            name = f"savepoint_{next(NUMBERS)}"
+        elif not is_name(name):
             raise errors.ProgrammingError(f"a savepoint can't be called {name!r}")
         return Savepoint(self, name)
 
@@ -162,27 +177,27 @@ class Connection:
     def iterdump(self) -> Iterator[str]:
         """The statements that make the database again, each with its semicolon, as sqlite3 has them. ProgrammingError where a transaction
         is open."""
-        scripts = self._native().dump()
-        return (text[start:end] for text in scripts for start, end in statements(text))
+        session = self._native()
+        return iter([part for script in session.dump() for part in session.parts(script)])
 
     # ---- for cursors
 
-    def answer(self, text: str, values: tuple[Value, ...], plan: int) -> tuple[Any, ...]:
+    def _answer(self, text: str, values: tuple[Value, ...], plan: int) -> tuple[Any, ...]:
         """What the engine answers to one statement, by the rules of transactions."""
         if plan == WANTS_TRANSACTION and self._autocommit is not True and not self._engine.in_transaction():
             return self._answer_in_new(text, values)
         return self._answer_in_mode(text, values, plan)
 
-    def outcome(self, text: str, values: tuple[Value, ...]) -> Outcome:
+    def _outcome(self, text: str, values: tuple[Value, ...]) -> Outcome:
         """What one statement answers, by the rules of transactions. A refusal is an outcome and raises nothing."""
         from .session import outcome_of, refused  # pylint: disable=import-outside-toplevel
 
         try:
-            return outcome_of(self._native(), self.answer(text, values, plan_of(text)), text, len(values))
+            return outcome_of(self._native(), self._answer(text, values, plan_of(text)), text, len(values))
         except errors.DatabaseError as error:
             return refused(error)
 
-    def answer_many(self, text: str, parameters: Iterable[Sequence[Value]]) -> int:
+    def _answer_many(self, text: str, parameters: Iterable[Sequence[Value]]) -> int:
         """Executes the text once for each set of values: how many rows were changed."""
         if self._autocommit is not True and isinstance(parameters, PLAIN) and all(isinstance(each, PLAIN) for each in parameters):
             return self._answer_list(text, list(parameters), 0)

@@ -13,12 +13,17 @@ if TYPE_CHECKING:
 
     from ._engine import Engine
     from .account import Account, Violation
+    from .text import Place
     from .transcript import Refusal
 
 __all__ = [
     "Warning", "Error", "InterfaceError", "DatabaseError", "DataError", "OperationalError", "IntegrityError", "InternalError",
     "ProgrammingError", "NotSupportedError",
 ]
+
+
+# What an exception was made of, where `args` says more.
+MADE_OF: Any = BaseException.__dict__["args"]
 
 
 class Warning(Exception):  # pylint: disable=redefined-builtin
@@ -37,6 +42,9 @@ class Error(Exception):
     column: int | None = None
     #: The first word of the text that can't stand where it does; empty where the text ends there, or no word begins.
     word: str | None = None
+    # Where the fault is in the text, and what is probably the matter.
+    _at = 0
+    _hint = ""
     _row = 0
     _lines = b""
     # The session that is to tell the lines; None where they were told.
@@ -47,10 +55,23 @@ class Error(Exception):
         place = f"statement {self.statement}: " if self.statement is not None else ""
         return place + (super().__str__() if self.cause is None else reason_of(self))
 
+    def __repr__(self) -> str:
+        return f"{type(self).__name__}({', '.join(map(repr, self.args))})"
+
+    @property
+    def args(self) -> tuple[Any, ...]:
+        """What the error was made of; of a refusal its reason."""
+        made_of: tuple[Any, ...] = MADE_OF.__get__(self)
+        return made_of if self.cause is None and self.statement is None else (str(self),)
+
+    @args.setter
+    def args(self, made_of: tuple[Any, ...]) -> None:
+        MADE_OF.__set__(self, made_of)
+
     def __reduce__(self) -> Any:
         self._tell()
         kept = {key: value for key, value in self.__dict__.items() if key not in ("_parsed", "_engine")}
-        return rebuilt, (type(self), self.args, kept)
+        return rebuilt, (type(self), MADE_OF.__get__(self), kept)
 
     @property
     def cause_name(self) -> str | None:
@@ -90,9 +111,9 @@ class Error(Exception):
 
     @property
     def reason(self) -> str | None:
-        """Why the statement was refused, for causes 3, 7 to 11, 16 to 18 and 21."""
+        """Why the statement was refused, for causes 3, 7 to 11, 16 to 18 and 21; what is probably the matter with a text that is no statement."""
         told = self.account.reason if self.account is not None else None
-        return told.text if told is not None else None
+        return told.text if told is not None else self._hint or None
 
     @property
     def violations(self) -> list[Violation]:
@@ -180,10 +201,10 @@ def rebuilt(kind: type[Error], words: tuple[object, ...], kept: dict[str, Any]) 
     return error
 
 
-def faulted(message: str, line: int, column: int, statement: int | None = None) -> ProgrammingError:
-    """The error of a text that is no statement."""
-    error = ProgrammingError(f"no statement at line {line}, column {column}{message}")
-    error.line, error.column, error.statement = line, column, statement
+def faulted(at: int, reason: str, place: Place, statement: int | None) -> ProgrammingError:
+    """The error of a text that is no statement, from a place of it on; the reason may be empty."""
+    error = ProgrammingError(f"no statement at line {place.line}, column {place.column}{': ' + place.words if place.words else ''}{f' ({reason})' if reason else ''}")
+    error.line, error.column, error.statement, error._at, error._hint = place.line, place.column, statement, at, reason
     return error
 
 

@@ -6,11 +6,12 @@ from typing import TYPE_CHECKING, Any, NamedTuple, Sequence
 
 from ._engine import Engine
 from .account import Account
-from .answers import CHANGED, DONE, EMPTY, ROWS, columns_of, encoded, error_of, fault_in, fault_place
+from .answers import CHANGED, DONE, EMPTY, ROWS, columns_of, encoded, error_of, fault_in
 from .catalogue import Catalogue, catalogue_of
+from .cursor import values_of
 from .errors import DatabaseError
 from .plans import COMMIT, plan_of
-from .text import statements
+from .text import folded
 from .transcript import Transcript, parse_transcript
 from .values import Value
 
@@ -111,6 +112,9 @@ class Session:
         self._explain = False
         self.explain = explain
 
+    def __reduce__(self) -> Any:
+        raise TypeError("a session can't be copied or pickled; dump has the scripts that make its database again")
+
     def __enter__(self) -> Session:
         return self
 
@@ -150,11 +154,12 @@ class Session:
     def execute(self, text: str, parameters: Sequence[Value] = ()) -> Outcome:
         """Executes one statement, with a value for each `?` in it. A refusal is an outcome and raises nothing; a text that is no
         statement raises ProgrammingError."""
+        values = values_of(parameters)
         try:
-            answer = self._engine.execute(text, tuple(parameters), plan_of(text) == COMMIT)
+            answer = self._engine.execute(text, values, plan_of(text) == COMMIT)
         except DatabaseError as error:
             return refused(error)
-        return outcome_of(self, answer, text, len(parameters))
+        return outcome_of(self, answer, text, len(values))
 
     def script(self, text: str) -> list[Outcome]:
         """Executes the statements of a text until one is refused, and gives their outcomes. Where something of the text is no
@@ -170,17 +175,14 @@ class Session:
     def parts(self, text: str) -> list[str]:
         """The statements of a text, each with its semicolon; the last may lack it. ProgrammingError where something is left that
         is no statement. Nothing is executed."""
-        count, fault = self._engine.read(encoded(text))
-        if fault is not None:
-            whole, text = count, text + "\n;"
-            count, fault = self._engine.read(encoded(text))
-            if fault is not None:
-                raise fault_in(text[:-2], whole, self._engine, whole + 1)
-        return [text[start:end] for start, end in statements(text)[:count]]
-
-    def fault_place(self, text: str, whole: int) -> tuple[int, int, str, str]:
-        """The line, the column, the words and what is probably the matter where a text is no statement behind so many whole ones."""
-        return fault_place(text, whole, self._engine)
+        data = encoded(text)
+        places, has_fault = self._engine.read(data)
+        if has_fault:
+            whole, data = len(places), data + b"\n;"
+            places, has_fault = self._engine.read(data)
+            if has_fault:
+                raise fault_in(text, whole, self._engine, whole + 1)
+        return [data[start:end].decode() for start, end in places]
 
     def commit(self) -> Outcome:
         """COMMIT. Where it is refused, the transaction is rolled back."""
@@ -196,7 +198,7 @@ class Session:
     def rollback_to(self, name: str) -> Outcome:
         """ROLLBACK TO SAVEPOINT."""
         try:
-            return outcome_of(self, self._engine.rollback_to(encoded(name.upper())), "ROLLBACK", 0)
+            return outcome_of(self, self._engine.rollback_to(encoded(folded(name))), "ROLLBACK", 0)
         except DatabaseError as error:
             return refused(error)
 
@@ -214,7 +216,7 @@ class Session:
     def dump(self) -> list[str]:
         """The database as scripts that make it again, to be executed one after another in a new session: each table with its constraints and
         its rows, in creation order, then the triggers. Rows get new numbers. ProgrammingError where a transaction is open, OperationalError
-        where a row would need a script that is too long, or memory was refused."""
+        where a row would need a script that is too long, the scripts don't make the same database, or memory was refused."""
         return self._engine.dump()
 
     def work(self) -> Work:

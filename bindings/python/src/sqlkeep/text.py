@@ -1,12 +1,12 @@
 """Texts of SQL: their words, where their statements end, and where a fault is.
 
-The engine alone decides what a text means. This is for what the engine doesn't tell: where each statement of a text is, whether
-one is whole, and which columns a SELECT asks for.
+The engine alone decides what a text means. This is for what the engine doesn't tell: where the statements are of a text with faults, or of
+one that is still being typed, and which columns a SELECT asks for.
 """
 import re
-from typing import List, NamedTuple, Optional, Tuple
+from typing import List, NamedTuple, Tuple
 
-__all__ = ["KEYWORDS", "Place", "Token", "is_name", "is_whole", "lexical_fault", "place_of", "select_list", "statements", "tokens"]
+__all__ = ["KEYWORDS", "Ends", "Place", "Token", "folded", "is_name", "lexical_fault", "place_of", "select_list", "spans", "tokens"]
 
 KEYWORDS = frozenset(
     """ACTION ADD AFTER ALL ALTER AND AS ATOMIC BEFORE BEGIN CASCADE CHAR CHARACTER CHECK COMMIT CONSTRAINT CONSTRAINTS
@@ -17,9 +17,9 @@ KEYWORDS = frozenset(
 )
 
 BLANK = re.compile(r"(?:[ \t\r\n]|--[^\n]*)+")
-PIECE = re.compile(r"(?P<word>[A-Za-z_][A-Za-z0-9_]*)|(?P<number>[0-9]+)|(?P<text>'(?:[^']|'')*')|(?P<sign><=|>=|<>|[(),;.=<>+*?-])")
+PIECE = re.compile(r"(?P<word>[A-Za-z_][A-Za-z0-9_]*)|(?P<number>[0-9]+)|(?P<text>'[^']*(?:''[^']*)*'(?!'))|(?P<sign><=|>=|<>|[(),;.=<>+*?-])")
 LONGEST_NAME = 128
-GREATEST = 2**63 - 1
+GREATEST = "9223372036854775807"
 
 
 class Token(NamedTuple):
@@ -41,7 +41,8 @@ class Place(NamedTuple):
 
 def kind_of(word: str, kind: str) -> str:
     """The kind of a token; `fault` for a name or a number that is too long."""
-    too_long = (kind == "word" and len(word) > LONGEST_NAME) or (kind == "number" and int(word) > GREATEST)
+    digits = word.lstrip("0") if kind == "number" else ""
+    too_long = (kind == "word" and len(word) > LONGEST_NAME) or (len(digits), digits) > (len(GREATEST), GREATEST)
     return "fault" if too_long else kind
 
 
@@ -61,29 +62,41 @@ def tokens(text: str) -> List[Token]:
         at = piece.end()
 
 
-def statements(text: str) -> List[Tuple[int, int]]:
-    """Where each whole statement of a text begins and ends, with its semicolon. Semicolons in a trigger's body end none."""
-    found: List[Tuple[int, int]] = []
-    first: Optional[Token] = None
-    in_body = False
-    for token in tokens(text):
-        first = first or token
+class Ends:
+    """Says of each token of a text whether it ends a statement. Semicolons in a trigger's body end none."""
+
+    def __init__(self) -> None:
+        # The first word of the statement that is open; empty between statements.
+        self.first = ""
+        self.in_body = False
+
+    def take(self, token: Token) -> bool:
+        """Whether the next token ends its statement."""
+        self.first = self.first or token.word
         if token.kind == "word" and token.word in ("BEGIN", "END"):
-            in_body = token.word == "BEGIN" and first.word == "CREATE"
-        if token.word == ";" and not in_body:
-            found.append((first.start, token.end))
-            first = None
-    return found
-
-
-def is_whole(text: str) -> bool:
-    """Whether nothing of a text is left behind its whole statements, or what is left is no beginning of one: it has a place where
-    no token can begin."""
-    found = tokens(text)
-    if found and found[-1].kind == "fault" and not text.startswith("'", found[-1].start):
+            self.in_body = token.word == "BEGIN" and self.first == "CREATE"
+        if token.word != ";" or self.in_body:
+            return False
+        self.first = ""
         return True
-    ends = statements(text)
-    return not found or (bool(ends) and ends[-1][1] == found[-1].end)
+
+
+def spans(text: str) -> List[Tuple[int, int]]:
+    """Where each statement of a text begins and ends, with its semicolon; and, as the last, what is left behind them."""
+    found: List[Tuple[int, int]] = []
+    ends = Ends()
+    start, end = -1, 0
+    for token in tokens(text):
+        start, end = token.start if start < 0 else start, token.end
+        if ends.take(token):
+            found.append((start, end))
+            start = -1
+    return found if start < 0 else [*found, (start, end)]
+
+
+def folded(name: str) -> str:
+    """A name as the engine folds it: its letters from a to z in upper case."""
+    return "".join(character.upper() if character.isascii() else character for character in name)
 
 
 def is_name(word: str) -> bool:

@@ -11,7 +11,7 @@ from typing import Iterator
 from ..catalogue import Catalogue
 from ..errors import ProgrammingError
 from ..session import Outcome, Session
-from ..text import Token, place_of, statements, tokens
+from ..text import Token, place_of, spans, tokens
 from . import differences, reading, tables, triggers
 from .expressions import expression
 from .levels import EVENTS, Statement
@@ -193,7 +193,7 @@ def refuse_nul(script: str) -> None:
         place = place_of(script, at)
         error = ProgrammingError(f"line {place.line}, column {place.column}: PostgreSQL has no text with the character U+0000")
         error.line, error.column = place.line, place.column
-        error.statement = sum(end <= at for _, end in statements(script)) + 1
+        error.statement = sum(end <= at for _, end in spans(script)) + 1
         raise error
 
 

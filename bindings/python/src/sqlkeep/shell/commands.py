@@ -5,6 +5,7 @@ import difflib
 import os
 from typing import TYPE_CHECKING, Callable
 
+from ..text import folded
 from .show import counted
 
 if TYPE_CHECKING:
@@ -44,7 +45,7 @@ def tables(shell: Shell, _: str) -> None:
 
 
 def schema(shell: Shell, word: str) -> None:
-    name = word.upper()
+    name = folded(word)
     if name and name not in shell.session.catalogue.tables:
         near = difflib.get_close_matches(name, shell.session.catalogue.tables, 1)
         raise Failed(f"table {name} isn't there{f'; did you mean {near[0]}?' if near else ''}")

@@ -1,6 +1,7 @@
 """What the shell keeps of the statements that were accepted."""
 from __future__ import annotations
 
+from ..plans import first_word
 from ..text import tokens
 
 __all__ = ["Kept"]
@@ -22,9 +23,10 @@ class Kept:
 
     def accept(self, text: str) -> None:
         """Keeps a statement that was accepted, with its semicolon."""
-        words = [token.word for token in tokens(text)]
-        text = text.rstrip() + ("" if words[-1:] == [";"] else "\n;")
+        # Nothing follows the last token; so a semicolon at the end is one.
+        text += "" if text.endswith(";") else "\n;"
         self.statements.append(text)
+        words = [token.word for token in tokens(text)] if first_word(text) in ("CREATE", "ALTER", "DROP") else []
         if words[:1] == ["CREATE"] and words[1] == "TABLE":
             self.schema.append((words[2], text))
         elif words[:1] == ["ALTER"]:

@@ -4,18 +4,20 @@ from __future__ import annotations
 import difflib
 import os
 import time
-from typing import Any, Iterator, TextIO
+from typing import Any, NamedTuple, TextIO
 
 from ..errors import DatabaseError, Error
+from ..plans import first_word
 from ..session import Outcome, Session
-from ..text import is_whole, statements, tokens
+from ..text import spans
 from ..transcript import Answer, Refusal
-from .colours import Colours
 from .commands import COMMANDS, Failed, read, run_command
 from .complete import candidates
 from .interrupts import Interrupts
 from .kept import Kept
+from .screen import Screen
 from .show import as_account, as_csv, as_json, as_table, caret, counted, visible
+from .typed import Typed
 
 __all__ = ["Shell"]
 
@@ -32,15 +34,15 @@ class Shell:
 
     def __init__(self, session: Session, stdin: TextIO, stdout: TextIO, stderr: TextIO) -> None:
         self.session = session
-        self.stdin, self.stdout, self.stderr = stdin, stdout, stderr
-        self.colours = Colours(stdout)
+        self.stdin, self.stdout, self.stderr = stdin, Screen(stdout), Screen(stderr)
         self.kept = Kept()
+        self.typed = Typed()
         self.mode = "table"
         self.timer = False
         self.is_over = False
         self.has_readline = False
         self.number = 0
-        self.is_at_terminal = stdin.isatty() and stdout.isatty()
+        self.is_at_terminal = stdin.isatty() and self.stdout.is_terminal
         # 1 where something was refused or is no statement.
         self.status = 0
 
@@ -107,22 +109,21 @@ class Shell:
 
     def read_all(self) -> None:
         """Reads lines up to the end, and executes what is whole."""
-        typed = ""
         while not self.is_over:
             try:
-                line = self.read_line(MORE if typed else PROMPT)
+                line = self.read_line(MORE if self.typed.lines else PROMPT)
             except KeyboardInterrupt:
                 if not self.is_at_terminal:
                     self.status = 130
                     return
                 # A terminal shows Ctrl-C itself, unless readline reads from it.
                 self.write("^C\n" if self.has_readline else "\n")
-                typed = ""
+                self.typed = Typed()
                 continue
             if line is None:
-                self.end(typed)
+                self.end()
                 return
-            typed = self.take(typed, line)
+            self.take(line)
 
     def read_line(self, prompt: str) -> str | None:
         """The next line; None at the end."""
@@ -135,28 +136,22 @@ class Shell:
             self.write("\n")
             return None
 
-    def take(self, typed: str, line: str) -> str:
-        """Takes a line behind what was typed before, and gives what isn't whole yet."""
+    def take(self, line: str) -> None:
+        """Takes a line behind those that were typed before, and executes them if they are whole now."""
         word = line.strip().rstrip(";").lower()
-        if not typed and (word.startswith(".") or word in WORDS):
+        if not self.typed.lines and (word.startswith(".") or word in WORDS):
             self.command(WORDS.get(word, line))
-            return ""
-        if typed and (word in WORDS or word in COMMANDS) and not is_in_text(typed):
+        elif self.typed.is_open and not self.typed.in_text and (word in WORDS or word in COMMANDS):
             self.complain("a statement is open: end it with a semicolon, or drop it with Ctrl-C")
-            return typed
-        # A line without a semicolon ends no statement: so long ones needn't be looked through line by line.
-        may_end = not typed or ";" in line
-        typed = f"{typed}\n{line}" if typed else line
-        if not may_end or not is_whole(typed):
-            return typed
-        self.execute_text(typed)
-        return ""
+        elif self.typed.add(line):
+            text, self.typed = self.typed.text, Typed()
+            self.execute_text(text)
 
-    def end(self, typed: str) -> None:
+    def end(self) -> None:
         """Ends with what came last, which isn't whole. At a terminal it is dropped; the last statement of a file needs no semicolon."""
-        if tokens(typed) and not self.is_at_terminal:
-            self.execute_text(typed)
-        elif tokens(typed):
+        if self.typed.is_open and not self.is_at_terminal:
+            self.execute_text(self.typed.text)
+        elif self.typed.is_open:
             self.complain("the last statement isn't whole, and wasn't executed: it lacks its semicolon")
 
     def command(self, line: str) -> None:
@@ -171,29 +166,35 @@ class Shell:
 
     def execute_text(self, text: str, name: str | None = None) -> None:
         """Executes each statement of a text once. A refusal stops none of those after it."""
+        at = line = start_of_line = 0
         with Interrupts() as interrupts:
-            for start, end in parts(text):
-                self.execute(text[start:end], text, start, name)
+            for start, end in spans(text):
+                line += text.count("\n", at, start)
+                start_of_line, at = max(start_of_line, text.rfind("\n", at, start) + 1), start
+                self.execute(text, start, end, Where(name, line + 1, start - start_of_line + 1))
                 if interrupts.came:
                     self.complain("interrupted; the statements after this one weren't executed")
                     return
 
-    def execute(self, part: str, text: str, start: int, name: str | None) -> None:
+    def execute(self, text: str, start: int, end: int, where: Where) -> None:
+        """Executes the statement between two places of a text."""
+        part = text[start:end]
         began = time.perf_counter()
         try:
             outcome = self.session.execute(part)
         except DatabaseError as error:
             if error.line is None:
-                self.complain(str(error))
+                self.complain(visible(str(error)))
             else:
-                self.show_fault(text, start, name)
+                self.complain(f"No statement at {where.of_fault(error)}", caret(text, start + error._at))
             return
         took = time.perf_counter() - began
         self.number += 1
         self.keep(part, outcome)
-        self.show(part, outcome)
+        self.show(part, outcome, where)
         if self.timer:
-            self.write(self.colours.of("dim", f"{took:.3f} s") + "\n")
+            self.stdout.line(f"{took:.3f} s", "dim")
+            self.stdout.flush()
 
     def keep(self, part: str, outcome: Outcome) -> None:
         if outcome.error is None:
@@ -211,30 +212,35 @@ class Shell:
         """Says what is wrong, and more about it, on standard error."""
         self.status = 1
         self.stdout.flush()
-        self.stderr.write((self.colours.of("refused", text) if self.stderr.isatty() else text) + "\n" + more)
+        self.stderr.line(text, "refused")
+        self.stderr.write(more)
         self.stderr.flush()
 
-    def show(self, part: str, outcome: Outcome) -> None:
+    def show(self, part: str, outcome: Outcome, where: Where) -> None:
         """Shows what a statement answered, and its account where it is asked for."""
         if self.mode == "transcript":
             self.write(str(self.answer(outcome)))
             self.status = 1 if outcome.error is not None else self.status
             return
         if outcome.error is not None:
-            self.show_refusal(outcome.error)
+            self.show_refusal(outcome.error, where)
         elif outcome.rows is not None:
             self.show_rows(outcome)
         elif self.mode == "table":
-            self.write(self.colours.of("ok", done(part, outcome)) + "\n")
+            self.stdout.line(done(part, outcome), "ok")
         if self.session.explain:
-            self.write(as_account(outcome.account))
+            self.stdout.write(as_account(outcome.account))
+        self.stdout.flush()
 
     def show_rows(self, outcome: Outcome) -> None:
         rows = outcome.rows or []
         if self.mode == "table":
-            self.write(as_table(outcome.columns, rows, self.colours.of))
+            head, *lines, count = as_table(outcome.columns, rows)
+            self.stdout.line(head, "head")
+            self.stdout.write("".join(f"{line}\n" for line in lines))
+            self.stdout.line(count, "dim")
         else:
-            self.write((as_csv if self.mode == "csv" else as_json)(outcome.columns, rows))
+            self.stdout.write((as_csv if self.mode == "csv" else as_json)(outcome.columns, rows))
 
     def answer(self, outcome: Outcome) -> Answer:
         """The outcome as the program writes it."""
@@ -243,12 +249,12 @@ class Shell:
         told = Answer(self.number, outcome.count, rows, refusal)
         return Answer(self.number, outcome.count, rows, refusal, outcome.account) if self.session.explain else told
 
-    def show_refusal(self, error: DatabaseError) -> None:
+    def show_refusal(self, error: DatabaseError, where: Where) -> None:
         """Says why a statement was refused, with all violations of a COMMIT."""
         violations = error.violations if len(error.violations) > 1 and not self.session.explain else []
         left = len(violations) - MOST_LISTED
         more = "".join(f"  {visible(str(violation))}\n" for violation in violations[:MOST_LISTED]) + (f"  and {left} more\n" if left > 0 else "")
-        self.complain(f"Refused: {visible(str(error))}{self.hint(error)}", more)
+        self.complain(f"Refused{where.of_refusal()}: {visible(str(error))}{self.hint(error)}", more)
 
     def hint(self, error: DatabaseError) -> str:
         """A name that is like the one that isn't there."""
@@ -259,31 +265,26 @@ class Shell:
         near = difflib.get_close_matches(error.name.rpartition(".")[2], names, 1)
         return f"; did you mean {near[0]}?" if near else ""
 
-    def show_fault(self, text: str, start: int, name: str | None) -> None:
-        """Says where a text is no statement, with its line and a caret."""
-        whole = sum(end <= start for _, end in statements(text))
-        line, column, _, reason = self.session.fault_place(text, whole)
-        where = f"{name}, line" if name is not None else "line"
-        self.complain(f"No statement at {where} {line}, column {column}{': ' + reason if reason else ''}", caret(text, line, column))
 
+class Where(NamedTuple):
+    """Where a statement begins: the file that it is of, if it is of one, its line and its column."""
 
-def parts(text: str) -> Iterator[tuple[int, int]]:
-    """The statements of a text, and what is left behind them."""
-    found = statements(text)
-    yield from found
-    behind = found[-1][1] if found else 0
-    rest = [token for token in tokens(text) if token.start >= behind]
-    if rest:
-        yield rest[0].start, len(text)
+    name: str | None
+    line: int
+    column: int
 
+    def of_refusal(self) -> str:
+        """The place behind `Refused`: that of a statement of a file."""
+        return f" at {visible(self.name)}, line {self.line}" if self.name is not None else ""
 
-def is_in_text(typed: str) -> bool:
-    """Whether what comes next is inside a text between quotes."""
-    found = tokens(typed)
-    return bool(found) and found[-1].kind == "fault" and typed.startswith("'", found[-1].start)
+    def of_fault(self, error: DatabaseError) -> str:
+        """The place of a fault in the statement, and what is probably the matter."""
+        line = error.line or 1
+        column = (error.column or 1) + (self.column - 1 if line == 1 else 0)
+        name = f"{visible(self.name)}, " if self.name is not None else ""
+        return f"{name}line {self.line + line - 1}, column {column}{': ' + error._hint if error._hint else ''}"
 
 
 def done(part: str, outcome: Outcome) -> str:
     """What a statement did: `ok`, and how many rows."""
-    word = tokens(part)[0].word
-    return "ok" if outcome.count is None else f"ok, {counted(outcome.count, 'row')} {DONE.get(word, 'changed')}"
+    return "ok" if outcome.count is None else f"ok, {counted(outcome.count, 'row')} {DONE.get(first_word(part), 'changed')}"
