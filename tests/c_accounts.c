@@ -240,7 +240,7 @@ static int limits(void) {
     WANT(executed(&session, INSERT, &outcome) == SQLKEEP_REFUSED && !has_lines(&session, SAID, SAID_IN_JSON));
     WANT(sqlkeep_rollback(&session) == SQLKEEP_OK && has_lines(&session, SAID, SAID_IN_JSON));
     WANT(sqlkeep_commit(&session, &outcome) == SQLKEEP_OK && has_lines(&session, "4 ok\n", "{\"number\":4,\"kind\":\"done\",\"account\":[]}\n"));
-    WANT(sqlkeep_dump(&session, &scripts) == SQLKEEP_OK && has_lines(&session, "4 ok\n", "{\"number\":4,\"kind\":\"done\"}\n"));
+    WANT(sqlkeep_dump(&session, &scripts) == SQLKEEP_OK && has_lines(&session, "4 ok\n", "{\"number\":4,\"kind\":\"done\",\"account\":[]}\n"));
     WANT(sqlkeep_close(&session) == SQLKEEP_OK);
     return 0;
 }
