@@ -50,6 +50,7 @@ def page(wasm, is_proved):
     parts = {
         "STYLE": (HERE / "style.css").read_text("utf-8"),
         "ORIGIN": PROVED if is_proved else UNPROVED,
+        "DOCS": "../docs" if is_proved else "../../docs",
         "ENGINE": base64.b64encode(gzip.compress(wasm, 9, mtime=0)).decode(),
         "EXAMPLES": json.dumps(documents.groups(), ensure_ascii=False).replace("</", "<\\/"),
         "WORKER": one_script(HERE / "parts" / "worker.mjs"),

@@ -17,17 +17,25 @@ def plain(text):
     return re.sub(r"\s+", " ", re.sub(LINK, r"\1", text)).strip()
 
 
+def note(sign, text):
+    """A note of a lesson: lines of comments with a sign (page/parts/lesson.mjs)."""
+    return "".join(f"--{sign} {line}".rstrip() + "\n" for line in text.split("\n"))
+
+
 def tour():
-    """The examples of the tour with their questions, in its order, and the one that isn't in it."""
+    """The examples of the tour as lessons with their questions, in its order, and the one that isn't in it."""
     text = (LANGUAGE / "tour.md").read_text("utf-8")
     body, answers = text.split("\n## Answers\n")
     said = [plain(answer) for answer in re.split(r"^\d+\. ", answers, flags=re.M)[1:]]
     parts = re.findall(r"^## (\d+) \[(\w+)\.sql\]\([^)]*\): ([^\n]+)\n(.*?)\n\*Question \d+\.\*(.*?)(?=\n## |\Z)", body, re.M | re.S)
-    examples = [{"name": name, "title": title, "text": plain(words), "question": plain(asked), "answer": said[int(at) - 1]} for at, name, title, words, asked in parts]
-    examples.append({"name": "authors", "title": "a first script"})
-    for example in examples:
-        example["script"] = (ROOT / "examples" / f"{example['name']}.sql").read_text("utf-8")
-    return examples
+    lessons = [(name, f"{name.capitalize()}: {title}", note("#", f"{title[0].upper()}{title[1:]}\n{plain(words)}") + note("?", plain(asked)) + note("!", said[int(at) - 1])) for at, name, title, words, asked in parts]
+    return [{"name": name, "title": title, "lesson": lesson, "script": lesson + (ROOT / "examples" / f"{name}.sql").read_text("utf-8")} for name, title, lesson in [*lessons, ("authors", "Authors: a first script", "")]]
+
+
+def exercises():
+    """The exercises that check themselves, by their headings."""
+    files = sorted((ROOT / "examples" / "lessons").glob("*.sql"))
+    return [{"name": file.stem, "title": re.search(r"^--# (.+)$", file.read_text("utf-8"), re.M)[1], "script": file.read_text("utf-8")} for file in files]
 
 
 def limits_of(words):
@@ -55,6 +63,8 @@ def pages():
 
 
 def groups():
-    """What the page offers: a group for the tour, and one for each page of the language."""
-    kept = ("name", "title", "script", "limits")
-    return [{"label": "Tour", "examples": tour()}] + [{"label": f"{file.name}: {title}", "examples": [{key: each[key] for key in kept} for each in scripts]} for file, title, scripts in pages()]
+    """What the page offers: a group for the tour, one for the exercises, and one for each page of the language, under their headings."""
+    def kept(label, examples):
+        return {"label": label, "examples": [{key: each[key] for key in ("name", "title", "script", "limits") if key in each} for each in examples]}
+
+    return [kept("Tour", tour()), kept("Exercises", exercises()), *(kept(title, scripts) for _, title, scripts in pages())]

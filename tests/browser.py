@@ -23,6 +23,8 @@ HERE = Path(__file__).resolve().parent
 ROOT = HERE.parent
 sys.dont_write_bytecode = True
 sys.path[:0] = [str(HERE), str(ROOT / "page")]
+import browser_lessons  # noqa: F401
+import browser_pictures  # noqa: F401
 import browser_scripts
 import bundle
 import documents
@@ -30,6 +32,8 @@ import javascript
 import run
 from browser_driver import Browser, Fault, PACKAGES, is_here
 
+# Each file of tests adds its own to one list.
+TESTS = browser_scripts.TESTS
 START_MS, COMPRESSED = 300, 400_000
 PICTURES = ROOT / "docs" / "page"
 MOST_BYTES = 60_000
@@ -359,7 +363,7 @@ def made_small(page, file):
 def pictures(page):
     """Makes docs/page/NAME.png of each example of the tour, NAME-phone.png of three, and NAME-account.png of three, also in dark; the status."""
     PICTURES.mkdir(exist_ok=True)
-    shots = [(each["name"], lambda name=each["name"]: page_shot(page, name, 1280)) for each in documents.tour() if "question" in each]
+    shots = [(each["name"], lambda name=each["name"]: page_shot(page, name, 1280)) for each in documents.tour() if each["lesson"]]
     shots.append(("authors", lambda: page_shot(page, "authors", 1280)))
     shots += [(f"{name}-phone", lambda name=name: page_shot(page, name, 400)) for name in ("first", "cascades", "logs")]
     shots += [(f"{name}-account{ending}", lambda name=name, scheme=scheme: account_shot(page, name, scheme)) for name in ("authors", "first", "cascades") for scheme, ending in (("light", ""), ("dark", "-dark"))]
@@ -372,7 +376,8 @@ def pictures(page):
 
 
 def all_tests(page, only):
-    chosen = [each for each in [weight, start, *browser_scripts.TESTS] if only is None or only in each.__name__]
+    page.browser.size(1280, 900)
+    chosen = [each for each in [weight, start, *TESTS] if only is None or only in each.__name__]
     results = [tried(function, page) for function in chosen]
     passed, failed = sum(results), len(results) - sum(results)
     for through in [] if only is not None else [scripts_through, scripts_by_steps]:

@@ -189,7 +189,7 @@ def words_have_their_colours(page):
 def a_fault_is_marked_at_its_line(page):
     page.run_script("COMMIT;\nSELEKT;\n")
     equal(page.lines(), ["1 ok", "2 fault 8"])
-    equal([page.texts(".line.fault"), page.joined(".faulty")], [["SELEKT;"], "SELEKT;"])
+    equal([page.texts(".line.fault"), page.joined(".faulty")], [["SELEKT;"], "SELEKT"])
     equal(page.texts("#said .why")[0], "No statement begins at line 2, column 1: SELEKT;")
     assert page.texts("#said .why")[1].startswith("The first word that can't stand where it does is at line 2, column 1: SELEKT; wanted "), page.texts("#said .why")
     assert page.text("#status").endswith("No statement begins at line 2, column 1."), page.text("#status")
@@ -211,7 +211,7 @@ def a_fault_says_what_is_known_of_it(page):
 def letters_that_are_no_token_are_marked(page):
     page.run_script("COMMIT; é;")
     equal(page.lines(), ["1 ok", "2 fault 8"])
-    equal([page.texts(".lines span.fault"), page.joined(".lines .faulty")], [["é"], "é;"])
+    equal([page.texts(".lines span.fault"), page.joined(".lines .faulty")], [["é"], "é"])
 
 
 @test
@@ -418,14 +418,14 @@ def a_statement_trigger_shows_the_rows_that_it_saw(page):
 def a_refused_commit_shows_what_went_back(page):
     page.open("#e=first&n=6")
     words = page.texts("#picture svg text")
-    assert {"What went back", "gone 1", "gone 2", "SOLVENT", "BALANCE >= 0 is false"} <= set(words), words
+    assert {"What went back", "gone row 1", "gone row 2", "SOLVENT", "BALANCE >= 0 is false"} <= set(words), words
 
 
 @test
 def a_rollback_shows_what_went_back(page):
     page.open("#e=savepoints&n=8")
     words = page.texts("#picture svg text")
-    assert {"What went back", "back 1", "back 2", "back 3"} <= set(words), words
+    assert {"What went back", "back row 1", "back row 2", "back row 3"} <= set(words), words
 
 
 @test
@@ -538,7 +538,7 @@ def a_slow_statement_shows_that_it_runs(page):
     """The statements before it have their answers, the time goes on, and Stop says how many there were."""
     page.put("CREATE TABLE t (a INT);\nINSERT INTO t VALUES (1);\n" + "INSERT INTO t SELECT * FROM t;\n" * 14 + "DELETE FROM t WHERE EXISTS (SELECT * FROM t AS x WHERE x.a > t.a);\nCOMMIT;\n")
     page.browser.click("#run")
-    page.browser.wait(lambda: re.fullmatch(r"Running for \d+ s: 16 statements of 18 executed", page.text("#status")), "the time of the run")
+    page.browser.wait(lambda: re.fullmatch(r"Running statement 17 of 18, for \d+ s", page.text("#status")), "the time of the statement")
     equal(page.texts(".answer .said")[:2], ["1 ok", "2 ok 1"])
     page.browser.click("#stop")
     page.idle()
@@ -583,6 +583,7 @@ def a_long_account_is_drawn_where_it_is_seen(page):
     page.put(script)
     page.browser.script("window.gap = 0; let last = performance.now(); const beat = (now) => { window.gap = Math.max(window.gap, now - last); last = now; requestAnimationFrame(beat); }; requestAnimationFrame(beat)")
     page.click("#run")
+    page.click("#unfold")
     lines, gap = page.browser.script("document.getElementById('account-text').open = true; return [document.querySelector('#account-lines .rolling').style.height, window.gap]")
     # 4,096 rows were inserted by the last statement, and for each a trigger ran a statement that inserted a row.
     equal(lines, f"{4096 * 4 * 20}px")
@@ -619,10 +620,10 @@ def every_control_is_reached_by_the_tab_key(page):
     page.open("#e=first")
     page.browser.script("document.activeElement.blur()")
     seen = []
-    for _ in range(24):
+    for _ in range(28):
         page.browser.press("Tab")
         seen.append(page.browser.script("return document.activeElement.id || document.activeElement.className || document.activeElement.tagName"))
-    wanted = ["example", "run", "back", "step", "share", "open", "save", "depth", "changes", "script", "transcript", "answers"]
+    wanted = ["example", "run", "back", "step", "here", "share", "open", "save", "lesson", "help", "depth", "changes", "script", "transcript", "answers"]
     equal([name for name in seen if name in wanted][: len(wanted)], wanted)
 
 
@@ -638,7 +639,7 @@ def the_skip_links_lead_on(page):
 @test
 def controls_have_names(page):
     page.open()
-    names = {"#example": "Example", "#run": "Run", "#back": "Back", "#step": "Step", "#stop": "Stop", "#share": "Share", "#open": "Open", "#save": "Save", "#transcript": "Save transcript", "#depth": "Trigger depth", "#changes": "Row changes",
+    names = {"#example": "Example", "#run": "Run", "#back": "Back", "#step": "Step", "#here": "To here", "#stop": "Stop", "#lesson": "Lesson", "#help": "Help", "#share": "Share", "#open": "Open", "#save": "Save", "#transcript": "Save transcript", "#depth": "Trigger depth", "#changes": "Row changes",
              "#script": "Script in SQL", "#answers": "Answers"}
     equal({selector: page.browser.label(selector) for selector in names}, names)
     equal(page.browser.script("return [...document.querySelectorAll('svg[role=img]')].filter((svg) => !svg.getAttribute('aria-label')).length"), 0)

@@ -104,7 +104,8 @@ def an_address_that_inflates_is_told(page):
 def save_writes_the_script(page):
     page.open("#e=keys")
     page.click("#save")
-    equal(page.downloaded("keys.sql"), example("keys"))
+    lesson = next(each["lesson"] for each in documents.tour() if each["name"] == "keys")
+    equal(page.downloaded("keys.sql"), lesson + example("keys"))
 
 
 @test
@@ -143,4 +144,6 @@ def a_script_comes_back_after_a_reload(page):
         equal(page.lines(), ["1 ok"])
     page.choose_example("keys")
     page.reload()
+    equal(page.value("#example"), "keys")
+    page.choose_example("your script")
     equal(page.value("#script"), "COMMIT; -- \u00e9\n")

@@ -4,6 +4,7 @@ import { byId, element } from "./elements.mjs";
 import { bytesOf, unzipped } from "./share.mjs";
 import { Client } from "./client.mjs";
 import { Controls } from "./controls.mjs";
+import { listenForPrinting } from "./print.mjs";
 
 const compiled = async () => WebAssembly.compile(await unzipped(bytesOf(byId("engine").textContent)));
 
@@ -11,6 +12,7 @@ async function start() {
   // The worker starts while the engine is compiled.
   const client = new Client(byId("worker").textContent, compiled());
   const controls = new Controls(client, JSON.parse(byId("examples").textContent));
+  listenForPrinting();
   await controls.begin();
   document.documentElement.dataset.ready = String(Math.round(performance.now()));
 }

@@ -2,19 +2,35 @@
 
 /**
  * @typedef {{before: Run[], changes: object[], actions: object[]}} Wave `before` has the BEFORE triggers, `actions` what follows from the changes
- * @typedef {{trigger: string, old: any[] | null, new: any[] | null, saw: object[], statements: {place: number, changesNothing?: true, blocks: Blocks}[], when?: string}} Run one
- *     that is skipped has in `when` the truth of its WHEN
+ * @typedef {{trigger: string, old: any[] | null, new: any[] | null, saw: object[], statements: {place: number, changesNothing?: true, blocks: Blocks}[], when?: string, signal?: string}} Run one
+ *     that is skipped has in `when` the truth of its WHEN, one that refused in `signal` the text of its SIGNAL
  * @typedef {{waves: Wave[], triggers: Run[], violations: object[], notes: string[]}} Blocks
  */
 
 const CHANGES = ["insert", "delete", "update"];
 
+/** The runs within which an account ends, the outermost first. */
+export function lastRuns(blocks) {
+  const run = [...blocks.waves.flatMap((wave) => wave.before), ...blocks.triggers].findLast((each) => !each.when);
+  return run ? [run, ...(run.statements.length > 0 ? lastRuns(run.statements.at(-1).blocks) : [])] : [];
+}
+
+// A violation of a key with the row first that was written, and the one that was there second.
+function newestFirst(violation, changes) {
+  const isNew = (row) => changes.some((change) => change.table === violation.table && change.row === row);
+  if (violation.reason !== "key" || isNew(violation.row) || !isNew(violation.otherRow)) {
+    return violation;
+  }
+  return { ...violation, row: violation.otherRow, values: violation.other, otherRow: violation.row, other: violation.values };
+}
+
 /**
  * The blocks of an account.
  * @param {object[]} entries as entriesOf gives them
+ * @param {{table: string, row: number}[]} written the rows that were written
  * @returns {Blocks}
  */
-export function blocksOf(entries) {
+export function blocksOf(entries, written = []) {
   const blocks = { waves: [], triggers: [], violations: [], notes: [] };
   for (const entry of entries) {
     if (CHANGES.includes(entry.kind)) {
@@ -22,11 +38,11 @@ export function blocksOf(entries) {
     } else if (entry.kind === "action") {
       blocks.waves.at(-1)?.actions.push(entry);
     } else if (entry.kind === "trigger") {
-      blocks.triggers.push({ ...entry, statements: entry.statements.map(({ place, entries: inner, changesNothing }) => ({ place, changesNothing, blocks: blocksOf(inner) })) });
+      blocks.triggers.push({ ...entry, statements: entry.statements.map(({ place, entries: inner, changesNothing }) => ({ place, changesNothing, blocks: blocksOf(inner, written) })) });
     } else if (entry.kind === "skipped") {
       blocks.triggers.push({ ...entry, saw: [], statements: [] });
     } else if (entry.kind === "violation") {
-      blocks.violations.push(entry);
+      blocks.violations.push(newestFirst(entry, written));
     } else if (entry.kind === "savepoints") {
       blocks.notes.push(entry.standing.length > 0 ? `savepoints that stand: ${entry.standing.join(", ")}` : "no savepoint stands");
     } else {
@@ -47,17 +63,18 @@ function waveFor(blocks) {
   return blocks.waves.at(-1);
 }
 
-const MANY = 5;
+const MANY = 64;
 
 /**
- * From which changes of a wave a foreign key reached which rows: one link for each changed row that lost a key, or one for the foreign key
- * where there are many.
+ * From which changes of a wave a foreign key reached which rows: one link for each box with a changed row that lost a key, or one for the
+ * foreign key where there are very many.
  * @param {Wave} wave
  * @param {Wave | undefined} next
  * @param {import("./schema.mjs").Schema} schema
+ * @param {(change: object) => any} boxOf the box that a change stands in
  * @returns {{constraint: string, action: string, sources: object[], targets: {table: string, row: number}[]}[]}
  */
-export function linksOf(wave, next, schema) {
+export function linksOf(wave, next, schema, boxOf) {
   const places = new Map((next?.changes ?? []).map((change) => [`${change.table} ${change.row}`, change]));
   const finders = new Map();
   const found = wave.actions.map((action) => {
@@ -67,19 +84,24 @@ export function linksOf(wave, next, schema) {
     const target = places.get(`${action.table} ${action.row}`);
     return { ...action, source: finders.get(action.constraint)(target?.before ?? null) };
   });
-  return gathered(found);
+  return gathered(found, boxOf);
 }
 
-function gathered(found) {
-  const sources = new Map();
+function gathered(found, boxOf) {
+  const sources = new Map(), numbers = new Map();
+  const numberOf = (source) => {
+    const box = source && boxOf(source);
+    numbers.set(box, numbers.get(box) ?? numbers.size);
+    return numbers.get(box);
+  };
   found.forEach(({ constraint, action, source }) => {
     const name = `${constraint} ${action}`;
-    sources.set(name, (sources.get(name) ?? new Set()).add(source));
+    sources.set(name, (sources.get(name) ?? new Set()).add(numberOf(source)));
   });
   const links = new Map();
   found.forEach(({ constraint, action, source, table, row }) => {
     const name = `${constraint} ${action}`;
-    const key = sources.get(name).size > MANY ? name : `${name} ${source?.table} ${source?.row}`;
+    const key = sources.get(name).size > MANY ? name : `${name} ${numberOf(source)}`;
     const link = links.get(key) ?? { constraint, action, sources: new Set(), targets: [] };
     link.targets.push({ table, row });
     links.set(key, source ? { ...link, sources: link.sources.add(source) } : link);

@@ -3,16 +3,18 @@
 import { Answers, signOf } from "./answers.mjs";
 import { byId, element } from "./elements.mjs";
 import { Editor } from "./editor.mjs";
-import { Examples, questionOf } from "./examples.mjs";
+import { Examples } from "./examples.mjs";
 import { Kept } from "./kept.mjs";
+import { checksOf, joined, partsOf } from "./lesson.mjs";
+import { lessonOf, resultsOf } from "./tutor.mjs";
 import { Limits } from "./limits.mjs";
 import { Panes } from "./panes.mjs";
 import { Run } from "./run.mjs";
 import { count } from "./said.mjs";
-import { addressOf, scriptOf, textOf } from "./share.mjs";
+import { addressOf, scriptOf, textOf, withoutMark } from "./share.mjs";
 
 // So long a run takes before the page says that it goes on, and between two looks at it.
-const RUNNING_MS = 300;
+const RUNNING_MS = 200;
 
 function download(text, name) {
   const address = URL.createObjectURL(new Blob([text], { type: "text/plain" }));
@@ -23,6 +25,10 @@ function download(text, name) {
 export class Controls {
   #chosen = 0;
   #asked = 0;
+  /** @type {import("./lesson.mjs").Note[]} */
+  #notes = [];
+  #lessonLines = [];
+  #isLessonEdited = false;
 
   /** @param {import("./client.mjs").Client} client @param {object[]} groups the scripts that the page brings */
   constructor(client, groups) {
@@ -31,7 +37,7 @@ export class Controls {
     this.panes = new Panes();
     this.kept = new Kept();
     this.examples = new Examples(byId("example"), groups);
-    this.editor = new Editor(byId("editor"), { onChange: () => this.#edited(), onCaret: (number) => this.#caret(number) });
+    this.editor = new Editor(byId("editor"), { onChange: () => this.#edited(), onCaret: (number) => this.#caret(number), onIndenting: (isIndenting) => this.#say(isIndenting ? "Tab and Shift-Tab indent. Escape lets Tab leave the editor again." : "Tab leaves the editor.") });
     this.answers = new Answers(byId("answers"), (number) => this.choose(number));
     this.run.onBusy = (isBusy) => this.#busy(isBusy);
     this.#listen();
@@ -52,17 +58,18 @@ export class Controls {
   }
 
   #listen() {
-    const buttons = { run: () => this.runAll(), step: () => this.step(), back: () => this.back(), stop: () => this.run.stop(), share: () => this.share(), open: () => byId("file").click(), save: () => this.save(), transcript: () => this.saveTranscript() };
+    const buttons = { run: () => this.runAll(), step: () => this.step(), here: () => this.runToHere(), back: () => this.back(), stop: () => this.run.stop(), share: () => this.share(), open: () => byId("file").click(), save: () => this.save(), transcript: () => this.saveTranscript(), help: () => byId("legend").showModal(), lesson: () => this.editLesson() };
     Object.entries(buttons).forEach(([id, work]) => byId(id).addEventListener("click", work));
-    byId("example").addEventListener("change", () => this.#openExample(byId("example").value));
+    byId("example").addEventListener("change", () => this.#choseExample(byId("example").value));
     byId("file").addEventListener("change", () => this.#openFile());
-    addEventListener("hashchange", () => this.#openAddress());
+    addEventListener("hashchange", () => history.state?.name ?? this.#openAddress());
+    addEventListener("popstate", ({ state }) => state?.name && this.#goBack(state.name));
     addEventListener("keydown", (event) => this.#key(event));
   }
 
   #key(event) {
-    const keys = { "Control+Enter": () => this.runAll(), "Meta+Enter": () => this.runAll(), "Alt+ArrowDown": () => this.step(), "Alt+ArrowUp": () => this.back() };
-    const name = `${event.ctrlKey ? "Control+" : ""}${event.metaKey ? "Meta+" : ""}${event.altKey ? "Alt+" : ""}${event.key}`;
+    const keys = { "Control+Enter": () => this.runAll(), "Meta+Enter": () => this.runAll(), "Control+Shift+Enter": () => this.runToHere(), "Meta+Shift+Enter": () => this.runToHere(), "Alt+ArrowDown": () => this.step(), "Alt+ArrowUp": () => this.back() };
+    const name = `${event.ctrlKey ? "Control+" : ""}${event.metaKey ? "Meta+" : ""}${event.altKey ? "Alt+" : ""}${event.shiftKey ? "Shift+" : ""}${event.key}`;
     // A list of choices has Alt and an arrow for itself.
     if (name in keys && event.target.tagName !== "SELECT") {
       event.preventDefault();
@@ -92,14 +99,83 @@ export class Controls {
   // Puts a script into the editor. What was typed there is kept in the list of examples.
   async #put(name, limits) {
     const example = this.examples.find(name);
-    this.editor.text = example.script;
+    this.#take(example.script);
     this.limits.set(limits ?? example.limits);
     this.run.forget();
     await this.run.idle();
     this.#chosen = 0;
     this.examples.choose(name);
-    byId("tour").replaceChildren(...questionOf(example));
+    history.replaceState({ name }, "");
     this.#clear();
+  }
+
+  // Puts a text into the editor, without the notes of its lesson, which stand above.
+  #take(text) {
+    const { script, notes } = partsOf(text);
+    this.#notes = notes;
+    this.#isLessonEdited = false;
+    this.#lessonLines = notes.length > 0 ? script.split("\n").filter((line) => line.trim() !== "") : [];
+    this.editor.text = script;
+    this.#showLesson();
+  }
+
+  #showLesson() {
+    const listeners = { onChoose: (number) => this.#goTo(number), onCheck: (box) => this.check(box) };
+    byId("tour").replaceChildren(...(this.#isLessonEdited ? [] : lessonOf(this.#notes, listeners)));
+    byId("lesson").setAttribute("aria-pressed", String(this.#isLessonEdited));
+  }
+
+  /** The script with the notes of its lesson. */
+  get text() {
+    return this.#isLessonEdited ? this.editor.text : joined(this.editor.text, this.#notes);
+  }
+
+  /** Puts the notes of the lesson into the editor, or takes them out again. */
+  async editLesson() {
+    const { text } = this, isEdited = !this.#isLessonEdited;
+    this.run.forget();
+    await this.run.idle();
+    if (isEdited) {
+      this.#isLessonEdited = true;
+      this.editor.text = text;
+      this.#showLesson();
+    } else {
+      this.#take(text);
+    }
+    this.#again(isEdited ? "These are the script and its lesson: lines that begin with --#, --?, --! and --@." : "The lesson stands above the script.");
+  }
+
+  async #goTo(number) {
+    await (number <= this.run.answers.length ? this.choose(number) : this.#execute(number, () => Math.min(number, this.run.count)));
+  }
+
+  /** Tells which checks of the lesson the script passes. */
+  async check(box) {
+    const checks = checksOf(this.#notes);
+    try {
+      const { fault, results } = await this.run.check(this.editor.text, checks);
+      box.replaceChildren(...(fault ? [element("p", {}, `The script has a fault at line ${fault.word.line}, column ${fault.word.column}: nothing was checked.`)] : resultsOf(checks, results)));
+    } catch (error) {
+      this.#failed(error);
+    }
+  }
+
+  // The same, with an entry in the history: Back leads back to what was there.
+  async #enter(name) {
+    history.pushState({ name }, "", this.examples.isBrought(name) ? `#${name}` : location.pathname + location.search);
+    await this.#put(name);
+  }
+
+  // What the history leads to: an address, or a script that the page still has.
+  async #goBack(name) {
+    if (location.hash === "" || !(await this.#openAddress())) {
+      await this.#openExample(this.examples.find(name) ? name : this.examples.first);
+    }
+  }
+
+  async #choseExample(name) {
+    await this.#enter(name);
+    await this.runAll(this.examples.shownFirst(name));
   }
 
   #clear() {
@@ -150,8 +226,11 @@ export class Controls {
     try {
       // A file that is far too long isn't read at all.
       const script = file.size > 1 << 21 ? textOf({ length: file.size }) : textOf(new Uint8Array(await file.arrayBuffer()));
-      await this.#put(this.examples.add(script));
+      await this.#enter(this.examples.add(withoutMark(script)));
       await this.runAll();
+      if (script !== withoutMark(script)) {
+        this.#say(`${byId("status").textContent} The byte order mark at the beginning of ${file.name} was left out.`);
+      }
     } catch (error) {
       this.#say(`${file.name} was not opened: ${error.message}.`, true);
     }
@@ -163,7 +242,7 @@ export class Controls {
 
   /** Writes the script to a file. */
   save() {
-    download(this.editor.text, `${this.#name}.sql`);
+    download(this.text, `${this.#name}.sql`);
     this.#say(`The script is saved as ${this.#name}.sql.`);
   }
 
@@ -179,19 +258,27 @@ export class Controls {
 
   /** Puts the script into the address, and the address into the clipboard where that is allowed. */
   async share() {
-    const address = await addressOf(this.editor.text, this.#chosen, this.limits.unusual);
-    history.replaceState(null, "", address);
+    const address = await addressOf(this.text, this.#chosen, this.limits.unusual);
+    history.replaceState(history.state, "", address);
     const isCopied = await (navigator.clipboard?.writeText(location.href) ?? Promise.reject()).then(() => true, () => false);
     this.#say(`The script is in the address${isCopied ? ", which is copied" : ": copy it from there"}. It has ${count(location.href.length, "character")}.`);
   }
 
-  #edited() {
-    this.examples.keep(this.editor.text);
-    this.kept.put(this.editor.text);
-    // The address holds another script now.
-    if (location.hash) {
-      history.replaceState(null, "", location.pathname + location.search);
+  // A lesson goes where nothing of its script is left, unless it is an exercise.
+  #keepLesson() {
+    const lines = new Set(this.#notes.length > 0 && !this.#isLessonEdited ? this.editor.text.split("\n") : this.#lessonLines);
+    if (!this.#lessonLines.some((line) => lines.has(line)) && checksOf(this.#notes).length === 0) {
+      this.#notes = [];
+      this.#showLesson();
     }
+  }
+
+  #edited() {
+    this.#keepLesson();
+    this.examples.keep(this.text);
+    this.kept.put(this.text);
+    // The address holds another script now.
+    history.replaceState({ name: this.examples.chosen }, "", location.pathname + location.search);
     this.#again("The script was changed: run it again.");
   }
 
@@ -226,6 +313,14 @@ export class Controls {
     });
   }
 
+  /** Executes up to the statement at the caret, in a new database where more was executed. */
+  async runToHere() {
+    const number = this.editor.statementAtCaret;
+    if (number > 0) {
+      await (number <= this.run.answers.length ? this.choose(number) : this.#execute(number, () => Math.min(number, this.run.count + (this.run.fault ? 1 : 0))));
+    }
+  }
+
   /** Goes on to the next statement, and executes it where that wasn't done. */
   async step() {
     const next = this.#chosen + 1;
@@ -234,12 +329,21 @@ export class Controls {
     } else {
       await this.#execute(next, () => Math.min(next, this.run.count + (this.run.fault ? 1 : 0)));
     }
+    this.#reveal();
+  }
+
+  // Where the panes stand below each other, what a step did may be out of sight.
+  #reveal() {
+    if (matchMedia("(max-width: 860px)").matches) {
+      byId("statement").scrollIntoView({ block: "start" });
+    }
   }
 
   /** Goes back to the statement before. */
   async back() {
     if (this.#chosen > 1) {
       await this.choose(this.#chosen - 1);
+      this.#reveal();
     }
   }
 
@@ -247,16 +351,11 @@ export class Controls {
     if (this.run.isBusy) {
       return;
     }
-    const began = performance.now(), running = setInterval(() => this.#sayRunning(performance.now() - began), RUNNING_MS);
-    let drawn = 0;
+    const began = performance.now();
+    let last = began;
+    const running = setInterval(() => this.#showRunning(performance.now() - last), RUNNING_MS);
     try {
-      await this.run.execute(this.editor.text, upTo, () => {
-        if (performance.now() - drawn > 100) {
-          this.answers.show(this.#items());
-          this.#sayRunning(performance.now() - began);
-          drawn = performance.now();
-        }
-      });
+      await this.run.execute(this.editor.text, upTo, () => (last = performance.now()));
       clearInterval(running);
       this.#showAnswers();
       this.#sayRun(performance.now() - began);
@@ -268,9 +367,13 @@ export class Controls {
     }
   }
 
-  #sayRunning(time) {
-    const whole = this.run.count > 0 ? `: ${count(this.run.answers.length, "statement")} of ${this.run.count.toLocaleString("en")} executed` : "";
-    this.#say(`Running${time < 1000 ? "" : ` for ${Math.floor(time / 1000)} s`}${whole}`);
+  // The answers so far, the statement that runs, and how long it does.
+  #showRunning(time) {
+    if (this.run.answers.length !== this.answers.items.length) {
+      this.answers.show(this.#items());
+    }
+    const whole = this.run.count > 0 ? ` statement ${(this.run.answers.length + 1).toLocaleString("en")} of ${this.run.count.toLocaleString("en")}` : " the script";
+    this.#say(`Running${whole}${time < 1000 ? "" : `, for ${Math.floor(time / 1000)} s`}`);
   }
 
   #sayRun(time) {
@@ -309,7 +412,13 @@ export class Controls {
   #showAnswers() {
     const items = this.#items();
     this.answers.show(items);
-    this.editor.mark(items.map(({ at, kind }) => ({ at, sign: signOf(kind), name: kind === "refused" || kind === "fault" ? kind : "ok" })), this.run.isWhole && this.run.fault ? (this.run.fault.isCut ? this.run.fault.at : this.run.fault.word.at) : null);
+    this.editor.mark(items.map(({ at, kind }) => ({ at, sign: signOf(kind), name: kind === "refused" || kind === "fault" ? kind : "ok" })), this.#wrong);
+  }
+
+  // What is underlined: the wrong word, or the statement within which the script ends.
+  get #wrong() {
+    const { fault, isWhole } = this.run;
+    return isWhole && fault ? { at: fault.isCut ? fault.at : fault.word.at, end: fault.isCut ? this.editor.text.length : fault.end } : null;
   }
 
   /** Shows a statement that was executed. */

@@ -1,6 +1,8 @@
 // The editor: a textarea with transparent text, over lines with numbers, marks and colours.
 
 import { element } from "./elements.mjs";
+import { indented } from "./indent.mjs";
+import { onPrint } from "./print.mjs";
 import { statementsOf, tokensOf } from "./tokens.mjs";
 
 const LONG = 60000, DELAY = 200, MANY = 1500, LINE = 20, PADDING = 8, MARGIN = 10;
@@ -52,26 +54,28 @@ export class Editor {
   #keys = [];
   #marks = new Map();
   #chosen = null;
-  #faultAt = null;
+  #fault = null;
   #place = 0;
   #timer = 0;
+  #isIndenting = false;
 
   /**
    * @param {HTMLElement} box
-   * @param {{onChange: () => void, onCaret: (number: number) => void}} listeners
+   * @param {{onChange: () => void, onCaret: (number: number) => void, onIndenting: (isIndenting: boolean) => void}} listeners
    */
   constructor(box, listeners) {
     this.listeners = listeners;
     this.lines = element("pre", { class: "lines", "aria-hidden": "true" });
     this.area = element("textarea", {
       id: "script", "aria-label": "Script in SQL", spellcheck: "false", autocapitalize: "off", autocomplete: "off",
-      oninput: () => this.#changed(), onkeyup: () => this.#caret(), onclick: () => this.#caret(),
+      oninput: () => this.#changed(), onkeydown: (event) => this.#key(event), onkeyup: () => this.#caret(), onclick: () => this.#caret(),
     });
     this.sheet = element("div", { class: "sheet" }, this.lines, this.area);
     box.append(this.sheet);
     this.box = box;
     box.addEventListener("scroll", () => this.isLong && this.draw());
     new ResizeObserver(() => this.isLong && this.draw()).observe(box);
+    onPrint(this.lines, (isWhole) => this.isLong && this.draw(isWhole));
     this.#read();
   }
 
@@ -90,7 +94,7 @@ export class Editor {
 
   #forget() {
     this.#chosen = null;
-    this.#faultAt = null;
+    this.#fault = null;
     this.#marks = new Map();
   }
 
@@ -99,9 +103,9 @@ export class Editor {
     return this.statements.findLastIndex((statement) => statement.at <= this.area.selectionStart) + 1;
   }
 
-  /** Marks statements: a sign and a class for the line in which each begins; and the place of a fault. */
-  mark(marks, faultAt) {
-    this.#faultAt = faultAt;
+  /** Marks statements: a sign and a class for the line in which each begins; and what is wrong, by its places. */
+  mark(marks, fault) {
+    this.#fault = fault;
     this.#marks = new Map(marks.filter(({ at }) => at !== undefined).map(({ at, sign, name }) => [this.#lineOf(at), { sign, name }]));
     this.draw();
   }
@@ -155,6 +159,28 @@ export class Editor {
     }
   }
 
+  // Tab leaves the editor, as everywhere, until Ctrl-M says that it indents; Escape takes that back.
+  #key(event) {
+    const isSwitch = event.ctrlKey && event.key === "m", isLeaving = event.key === "Escape" && this.#isIndenting;
+    if (isSwitch || isLeaving) {
+      event.preventDefault();
+      this.#isIndenting = isSwitch && !this.#isIndenting;
+      this.listeners.onIndenting(this.#isIndenting);
+    } else if (event.key === "Tab" && this.#isIndenting) {
+      event.preventDefault();
+      this.#indent(event.shiftKey);
+    }
+  }
+
+  #indent(isBack) {
+    const { selectionStart: from, selectionEnd: to } = this.area, change = indented(this.text, from, to, isBack);
+    const added = change.text.length - (change.to - change.from);
+    this.area.setSelectionRange(change.from, change.to);
+    // The one way that undo knows of.
+    document.execCommand(change.text === "" ? "delete" : "insertText", false, change.text);
+    this.area.setSelectionRange(from === to ? Math.max(change.from, from + added) : change.from, to + added);
+  }
+
   // A key that doesn't move the caret chooses nothing.
   #caret() {
     if (this.area.selectionStart !== this.#place) {
@@ -164,17 +190,13 @@ export class Editor {
   }
 
   #ranges() {
-    const end = this.#faultAt === null ? 0 : this.text.indexOf("\n", this.#faultAt);
-    return [
-      ...(this.#chosen ? [{ ...this.#chosen, name: "chosen" }] : []),
-      ...(this.#faultAt === null ? [] : [{ at: this.#faultAt, end: end < 0 ? this.text.length : end, name: "faulty" }]),
-    ];
+    return [...(this.#chosen ? [{ ...this.#chosen, name: "chosen" }] : []), ...(this.#fault ? [{ ...this.#fault, name: "faulty" }] : [])];
   }
 
   /** Makes the lines that changed anew; of a long script those that are seen. */
-  draw() {
-    const first = this.isLong ? Math.max(0, Math.floor(this.box.scrollTop / LINE) - MARGIN) : 0;
-    const last = this.isLong ? Math.min(this.ends.length, first + Math.ceil(this.box.clientHeight / LINE) + 2 * MARGIN) : this.ends.length;
+  draw(isWhole = !this.isLong) {
+    const first = !isWhole ? Math.max(0, Math.floor(this.box.scrollTop / LINE) - MARGIN) : 0;
+    const last = !isWhole ? Math.min(this.ends.length, first + Math.ceil(this.box.clientHeight / LINE) + 2 * MARGIN) : this.ends.length;
     const part = { from: first === 0 ? 0 : this.ends[first - 1] + 1, to: this.ends[last] ?? this.text.length };
     const tokens = this.isLong ? this.tokens.slice(placeIn(this.tokens, part.from, (token) => token.end), placeIn(this.tokens, part.to, (token) => token.at)) : this.tokens;
     this.#drawLines(colouredLines(this.text, tokens, this.#ranges(), part), first);

@@ -1,8 +1,6 @@
 // Elements of HTML and of SVG, made in one call.
 
 const SVG = "http://www.w3.org/2000/svg";
-// So long a piece of code stays on one line.
-const SHORT = 24;
 
 function filledElement(made, attributes, children) {
   for (const [name, value] of Object.entries(attributes)) {
@@ -29,8 +27,3 @@ export function drawing(tag, attributes = {}, ...children) {
 /** The element with this id.
  * @type {(id: string) => any} */
 export const byId = (id) => document.getElementById(id);
-
-/** A text with `code` between backquotes, as nodes. */
-export function prose(text) {
-  return text.split("`").map((part, at) => (at % 2 === 1 ? element("code", { class: part.length < SHORT ? "short" : null }, part) : part));
-}

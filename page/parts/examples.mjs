@@ -1,6 +1,6 @@
 // The list of scripts: the tour, the pages of the language, and those of one's own.
 
-import { element, prose } from "./elements.mjs";
+import { element } from "./elements.mjs";
 
 const OWN = "your script";
 
@@ -10,7 +10,7 @@ const SHOWN_FIRST = { first: 6, nulls: 6, transactions: 8, keys: 6, references: 
 export class Examples {
   /**
    * @param {HTMLSelectElement} list
-   * @param {{label: string, examples: {name: string, title: string, script: string, limits?: object, text?: string, question?: string, answer?: string}[]}[]} groups
+   * @param {{label: string, examples: {name: string, title: string, script: string, limits?: object}[]}[]} groups
    */
   constructor(list, groups) {
     this.list = list;
@@ -33,6 +33,11 @@ export class Examples {
     return this.own.some((example) => example.name === this.chosen);
   }
 
+  /** Whether the page brings a script of this name. */
+  isBrought(name) {
+    return !this.own.some((example) => example.name === name) && this.find(name) !== null;
+  }
+
   find(name) {
     return [...this.own, ...this.groups.flatMap((group) => group.examples)].find((example) => example.name === name) ?? null;
   }
@@ -45,7 +50,7 @@ export class Examples {
   // Makes the list anew. What is chosen stays so.
   #fill() {
     const chosen = this.list.value;
-    const option = (example, at) => element("option", { value: example.name }, `${at + 1} ${/-\d+$/.test(example.name) ? "" : `${example.name}: `}${example.title}`);
+    const option = (example, at) => element("option", { value: example.name }, `${at + 1} ${example.title}`);
     const groups = this.groups.map((group) => element("optgroup", { label: group.label }, ...group.examples.map(option)));
     this.list.replaceChildren(...this.own.map((example) => element("option", { value: example.name }, example.name)), ...groups);
     this.list.value = chosen || this.first;
@@ -76,14 +81,4 @@ export class Examples {
       this.choose(this.#new(script));
     }
   }
-}
-
-/** The question of an example, as elements. */
-export function questionOf(example) {
-  return example?.question ? [
-    element("h2", {}, `${example.title[0].toUpperCase()}${example.title.slice(1)}`),
-    element("p", {}, ...prose(example.text)),
-    element("p", {}, element("strong", {}, "Question. "), ...prose(example.question)),
-    element("details", {}, element("summary", {}, "Answer"), element("p", {}, ...prose(example.answer))),
-  ] : [];
 }

@@ -2,9 +2,13 @@
 
 import { units } from "./groups.mjs";
 
-const CELL = 11, PAD = 8, HEAD = 20, ROW = 24, ROW_GAP = 4, GROUP_GAP = 12, CAPTION = 22;
+const CELL = 10, PAD = 7, HEAD = 20, ROW = 24, ROW_GAP = 4, GROUP_GAP = 12, CAPTION = 22;
 // The room for lines beside pills: more where there are more lines.
-const ARM = 18, ARM_FOR_EACH = 1.5, MOST_ARM = 30;
+const ARM = 14, ARM_FOR_EACH = 1.5, MOST_ARM = 30;
+// Boxes side by side: between them, between their lines, and how many stand below each other before.
+const GUTTER = 14, LINE_GAP = 16, FEW = 3;
+// How far below a box a line goes that leaves it.
+const GAP_LINE = 5;
 const PILL = 36, PILL_GAP = 8, PILL_LINE = 24, MARGIN = 22, TIP = 7;
 
 const textOf = (cell) => cell.map((piece) => piece.text).join("");
@@ -54,14 +58,14 @@ export class Flow {
 
   /** Puts the columns at a place; what they take up to the bottom and to the right. */
   place(x, y, room) {
-    return this.columns.length > 1 && this.width() > room ? this.#below(x, y) : this.#beside(x, y);
+    return this.columns.length > 1 && this.width() > room ? this.#below(x, y, room) : this.#beside(x, y);
   }
 
   #beside(x, y) {
     let left = x, bottom = y;
     this.columns.forEach((column, at) => {
       column.boxes = new Map();
-      bottom = Math.max(bottom, this.#column(column, left, y, column.w));
+      bottom = Math.max(bottom, this.#column(column, left, y, column.w, 0));
       left += column.w + this.#gap(at);
     });
     left = x;
@@ -73,8 +77,8 @@ export class Flow {
     return { bottom, right: x + this.width() };
   }
 
-  // The rows of a column from the top down; its bottom.
-  #column(column, x, y, width) {
+  // The rows of a column from the top down; its bottom. In the room there may be several beside each other.
+  #column(column, x, y, width, room) {
     let top = y;
     if (column.caption) {
       this.sheet.text(x, top + 12, column.caption, "soft sans");
@@ -84,28 +88,30 @@ export class Flow {
       top = place(x, top, width).bottom + GROUP_GAP;
     });
     column.groups.forEach((group, at) => {
-      top = this.#group(column, group, x, top + (at > 0 ? GROUP_GAP : 0), width);
+      const across = acrossOf(group, room);
+      top = this.#group(column, group, x, top + (at > 0 ? GROUP_GAP : 0), across > 1 ? group.w : width, across);
     });
     return top;
   }
 
-  #group(column, group, x, y, width) {
+  #group(column, group, x, y, width, across) {
     const { sheet } = this;
     let top = y;
     if (group.head) {
       sheet.text(x + PAD, y + 13, group.head, "strong");
       this.#cells(group, group.columns.map((name) => [{ text: name, name: "soft small" }]), x, y + 13);
-      top += HEAD;
+      top += HEAD + (across > 1 ? LINE_GAP - ROW_GAP : 0);
     }
-    group.rows.forEach((row) => {
-      const box = sheet.box(x, top, width, ROW, `row ${row.kind}`, row.title);
-      sheet.text(x + PAD, top + 16, row.label, row.kind === "absent" ? "violating" : row.kind);
-      this.#cells(group, row.cells, x, top + 16);
+    const gap = across > 1 ? LINE_GAP : ROW_GAP;
+    group.rows.forEach((row, at) => {
+      const left = x + (at % across) * (width + GUTTER), base = top + Math.floor(at / across) * (ROW + gap);
+      const box = Object.assign(sheet.box(left, base, width, ROW, `row ${row.kind}`, row.title), { isAcross: across > 1 });
+      sheet.text(left + PAD, base + 16, row.label, row.kind === "absent" ? "violating" : row.kind);
+      this.#cells(group, row.cells, left, base + 16);
+      [row, ...(row.covers ?? [])].forEach((each) => column.boxes.set(`${each.table} ${each.row}`, box));
       column.boxes.set(row, box);
-      column.boxes.set(`${row.table} ${row.row}`, box);
-      top += ROW + ROW_GAP;
     });
-    return top - ROW_GAP;
+    return top + Math.ceil(group.rows.length / across) * (ROW + gap) - gap;
   }
 
   #cells(group, cells, x, base) {
@@ -124,8 +130,8 @@ export class Flow {
     const boxOf = (column, end) => column.boxes.get(end) ?? column.boxes.get(`${end.table} ${end.row}`);
     return links.map((link) => ({
       ...link,
-      from: link.from.map((end) => boxOf(this.columns[at], end)).filter(Boolean),
-      to: link.to.map((end) => boxOf(this.columns[at + 1], end)).filter(Boolean),
+      from: [...new Set(link.from.map((end) => boxOf(this.columns[at], end)))].filter(Boolean),
+      to: [...new Set(link.to.map((end) => boxOf(this.columns[at + 1], end)))].filter(Boolean),
     })).filter((link) => link.to.length > 0);
   }
 
@@ -164,15 +170,17 @@ export class Flow {
   }
 
   // One column below the other, with the lines of links in the margins: out at the right, and in at the left.
-  #below(x, y) {
-    const width = Math.max(...this.columns.map((column) => column.w), ...this.links.flat().map((link) => this.#lineWidth(link)));
+  #below(x, y, room) {
+    const narrow = Math.max(...this.columns.map((column) => column.w), ...this.links.flat().map((link) => this.#lineWidth(link)));
+    const isAcross = this.columns.some((column) => column.groups.some((group) => acrossOf(group, room - 2 * MARGIN) > 1));
+    const width = isAcross ? Math.max(narrow, room - 2 * MARGIN) : narrow;
     let top = y;
     this.columns.forEach((column, at) => {
       column.boxes = new Map();
       const links = at > 0 ? this.links[at - 1] ?? [] : [];
-      const room = links.length * (PILL_LINE + PILL_GAP);
+      const pills = links.length * (PILL_LINE + PILL_GAP);
       const pillsAt = top + (at > 0 ? GROUP_GAP : 0);
-      top = this.#column(column, x + MARGIN, pillsAt + room + (room > 0 ? PILL_GAP : 0), width);
+      top = this.#column(column, x + MARGIN, pillsAt + pills + (pills > 0 ? PILL_GAP : 0), narrow, width);
       this.#pillsBelow(links, at - 1, x, pillsAt, width);
     });
     return { bottom: top, right: x + width + 2 * MARGIN };
@@ -191,16 +199,41 @@ export class Flow {
       const [first, second] = link.words;
       this.sheet.text(left + PAD, top + 16, first, "strong");
       this.sheet.text(left + PAD + this.sheet.width(`${first} `), top + 16, second, link.name || "accent");
-      link.from.forEach((box) => this.#corner([box.x + box.w, box.y + box.h / 2], outX, [left + w, middle], link.name));
-      link.to.forEach((box) => this.#corner([left, middle], inX, [box.x - TIP, box.y + box.h / 2], link.name));
-      link.to.forEach((box) => this.#tip(box.x, box.y + box.h / 2, link.name));
+      link.from.forEach((box) => this.#out(box, outX, [left + w, middle], link.name));
+      link.to.forEach((box) => this.#in([left, middle], inX, box, link.name));
     });
+  }
+
+  // Out of a box at its right; where others stand there, down into the gap between the lines.
+  #out(box, over, [toX, toY], name) {
+    const [x, y] = [box.x + box.w, box.y + box.h / 2];
+    if (!box.isAcross) {
+      this.#corner([x, y], over, [toX, toY], name);
+      return;
+    }
+    const from = [x - GUTTER, box.y + box.h];
+    this.sheet.path(from[0], from[1], toY, `arrow ${name}`, `M0 0V${GAP_LINE}H${over - from[0]}V${toY - from[1]}H${toX - from[0]}`);
+  }
+
+  // Into a box from its left; where others stand there, out of the gap above.
+  #in([x, y], over, box, name) {
+    if (!box.isAcross) {
+      this.#corner([x, y], over, [box.x - TIP, box.y + box.h / 2], name);
+      this.#tip(box.x, box.y + box.h / 2, name);
+      return;
+    }
+    const toX = box.x + GUTTER, gap = box.y - 2 * GAP_LINE;
+    this.sheet.path(x, y, box.y, `arrow ${name}`, `M0 0H${over - x}V${gap - y}H${toX - x}V${box.y - TIP - y}`);
+    this.sheet.path(toX, box.y, box.y, `tip ${name}`, `M0 0l-4 ${-TIP}h8z`);
   }
 
   #corner([x, y], over, [toX, toY], name) {
     this.sheet.path(x, y, toY, `arrow ${name}`, `M0 0H${over - x}V${toY - y}H${toX - x}`);
   }
 }
+
+// How many boxes of a group stand beside each other in a room.
+const acrossOf = (group, room) => (group.rows.length > FEW ? Math.max(1, Math.floor((room + GUTTER) / (group.w + GUTTER))) : 1);
 
 // Heights at least a step apart, each as near as can be to the one that is wanted; none is less than the first that is allowed.
 function spread(wanted, step, least) {

@@ -46,29 +46,45 @@ export function changeBox(change, label = change.kind) {
   const { table, row, before, after } = change;
   const kind = label === "gone" ? "gone" : label === "back" ? (before && after ? "was-changed" : "back") : change.kind;
   const title = `${label} ${table} row ${row} ${before && after ? `${written(before)} to ${written(after)}` : written(after ?? before)}`;
-  return { label: `${label} ${row}`, kind, cells: cellsOf(before, after, kind === "delete" || kind === "gone" ? "was" : ""), title, table, row };
+  return { label: `${label} row ${row}`, kind, cells: cellsOf(before, after, kind === "delete" || kind === "gone" ? "was" : ""), title, table, row };
 }
 
-/** The groups of boxes, by table in the order in which the tables come. */
-export function groupsOf(boxes, schema) {
+/**
+ * The first of a list, as many as there is room for, and the number of the others. Those that have to be seen come before the rest.
+ * @template T
+ * @param {T[]} list @param {number} most @param {(each: T) => boolean} isShown
+ */
+export function folded(list, most, isShown = () => false) {
+  const kept = list.length > most ? new Set([...list.filter(isShown), ...list].slice(0, most - 1)) : null;
+  return kept ? { first: list.filter((each) => kept.has(each)), rest: list.filter((each) => !kept.has(each)) } : { first: list, rest: [] };
+}
+
+/** The groups of boxes, by table in the order in which the tables come, each with at most so many boxes. */
+export function groupsOf(boxes, schema, most = Infinity) {
   const groups = new Map();
   boxes.forEach((box) => {
     const group = groups.get(box.table) ?? { head: box.table, columns: columnsOf(schema, box.table, box.cells.length), rows: [] };
     group.rows.push(box);
     groups.set(box.table, group);
   });
-  return [...groups.values()];
+  return [...groups.values()].map((group) => ({ ...group, rows: withFold(group.rows, most) }));
+}
+
+function withFold(rows, most) {
+  const { first, rest } = folded(rows, most, (row) => / hit$/.test(row.kind));
+  const label = `and ${rest.length.toLocaleString("en")} more`;
+  return rest.length === 0 ? rows : [...first, { label, kind: "folded", cells: [], title: label, table: rest[0].table, row: null, covers: rest }];
 }
 
 /** A group of what a trigger saw: its old and new row, or the rows of its transition tables. */
-export function seenGroups(run, schema) {
+export function seenGroups(run, schema, most) {
   const table = schema.triggers.get(run.trigger)?.table ?? "";
   const sides = [["OLD", run.old], ["NEW", run.new]].filter(([, values]) => values);
   const boxes = sides.map(([label, values]) => ({
     label, kind: "plain", cells: cellsOf(null, values, ""), title: `${label} ${written(values)}`, table,
   }));
   const saw = run.saw.filter((change) => change.table).map((change) => changeBox(change));
-  return groupsOf([...boxes, ...saw], schema).map((group) => ({ ...group, head: run.saw.length > 0 ? `saw ${group.head}` : group.head }));
+  return groupsOf([...boxes, ...saw], schema, most).map((group) => ({ ...group, head: run.saw.length > 0 ? `saw ${group.head}` : group.head }));
 }
 
 /** The box of a row that violates, with the columns of the constraint marked. */
@@ -96,6 +112,6 @@ export function keyGroup(violation, schema) {
 export function otherBox(violation, schema) {
   const constraint = schema.constraints.get(violation.constraint);
   const marked = schema.places(violation.table, constraint?.columns ?? []);
-  const cells = violation.other.map((value, at) => [{ text: shownValue(value), name: marked.includes(at) ? "strong violating" : "" }]);
+  const cells = violation.other.map((value, at) => [{ text: shownValue(value), name: marked.includes(at) ? "strong" : "" }]);
   return { label: `row ${violation.otherRow}`, kind: "plain", cells, table: violation.table, row: violation.otherRow, title: `${violation.table} row ${violation.otherRow} ${written(violation.other)}` };
 }

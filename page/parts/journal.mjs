@@ -10,6 +10,11 @@ export class Journal {
   /** @type {{name: string, at: number}[]} */
   #savepoints = [];
 
+  /** The names of the savepoints that stand, in the order in which they were set. */
+  get standing() {
+    return this.#savepoints.map((savepoint) => savepoint.name);
+  }
+
   /** The rows of a table by number. */
   rows(table) {
     return this.#tables.get(table) ?? new Map();

@@ -7,9 +7,17 @@ const NAME = "sqlkeep.script", LATER_MS = 300;
 export class Kept {
   /** @type {string | null} what is to be kept and isn't yet */
   #script = null;
+  #isLost = false;
 
   constructor() {
     addEventListener("pagehide", () => this.#write());
+    // The browser asks before it leaves a script that it could not keep.
+    addEventListener("beforeunload", (event) => {
+      this.#write();
+      if (this.#isLost) {
+        event.preventDefault();
+      }
+    });
   }
 
   /** Keeps a script, a moment after its last letter was typed. */
@@ -26,8 +34,9 @@ export class Kept {
     }
     try {
       localStorage.setItem(NAME, this.#script);
+      this.#isLost = false;
     } catch {
-      return;
+      this.#isLost = true;
     } finally {
       this.#script = null;
     }

@@ -17,12 +17,14 @@ export class Panes {
   #detail = null;
   #lines = [];
   #width = 0;
+  #isUnfolded = false;
 
   constructor() {
     this.picture = new Picture(byId("picture"));
     this.diagram = new Picture(byId("diagram"));
     this.rolling = new Rolling(byId("account-lines"), LINE, (at) => element("div", {}, this.#lines[at].replace(/\n/g, "↵")));
     byId("account-text").addEventListener("toggle", () => this.rolling.draw(true));
+    byId("unfold").addEventListener("click", () => this.#unfold());
     new ResizeObserver(() => this.#resized()).observe(byId("detail"));
     document.fonts?.ready.then(() => this.#resized());
   }
@@ -32,6 +34,7 @@ export class Panes {
     detail.schema = new Schema(detail.catalogue);
     detail.wentBack = wentBack(detail, text) ? [...detail.changes].sort((one, other) => one.row - other.row) : [];
     this.#detail = detail;
+    this.#isUnfolded = false;
     byId("detail").hidden = false;
     byId("statement-head").textContent = `Statement ${detail.number} of ${whole}`;
     byId("said").replaceChildren(...saidOf(detail, text));
@@ -58,6 +61,11 @@ export class Panes {
     byId("said").replaceChildren(element("p", { class: "none" }, "Run the script, or step through it, to see what each statement does."));
     ["waiting", "rows"].forEach((id) => byId(id).replaceChildren());
     ["account", "deferred", "tables", "schema"].forEach((id) => byId(id).hidden = true);
+  }
+
+  #unfold() {
+    this.#isUnfolded = !this.#isUnfolded;
+    this.#draw();
   }
 
   #resized() {
@@ -87,12 +95,16 @@ export class Panes {
     byId("account-lines").style.height = `${Math.min(16, this.#lines.length) * LINE + 2}px`;
     this.rolling.show(this.#lines.length);
     if (!hasPicture) {
+      byId("unfold").hidden = true;
       this.picture.clear();
       return;
     }
     const sheet = new Sheet(characterWidth(), detail.schema);
     const room = this.#width - BORDERS;
-    this.picture.show(sheet.shapes, layout(detail, sheet, room / LEAST_SCALE), room, accountLabel(detail));
+    const size = layout(detail, sheet, room / LEAST_SCALE, this.#isUnfolded);
+    this.picture.show(sheet.shapes, size, room, accountLabel(detail));
+    byId("unfold").hidden = !sheet.isFolded && !this.#isUnfolded;
+    byId("unfold").textContent = this.#isUnfolded ? "Fold the picture" : "Show all rows";
   }
 }
 

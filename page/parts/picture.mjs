@@ -1,11 +1,12 @@
 // Draws the shapes of a sheet as SVG: those alone that are in the part that is seen.
 
 import { drawing } from "./elements.mjs";
+import { onPrint } from "./print.mjs";
 
 const MARGIN = 200, HIGHEST = 3000;
 
 /** How small a picture may be made so that it fits. */
-export const LEAST_SCALE = 0.86;
+export const LEAST_SCALE = 0.85;
 
 /** How wide a character of a picture is, in pixels. */
 export function characterWidth() {
@@ -37,6 +38,7 @@ export class Picture {
     this.sheet.className = "sheet-of-picture";
     this.sheet.append(this.svg);
     box.addEventListener("scroll", () => this.#soon());
+    onPrint(this.sheet, (isWhole) => this.draw(isWhole));
     new ResizeObserver(() => this.#soon()).observe(box);
   }
 
@@ -71,11 +73,11 @@ export class Picture {
     this.#frame = requestAnimationFrame(() => this.draw());
   }
 
-  /** Makes the shapes that are seen. */
-  draw() {
+  /** Makes the shapes that are seen, or all of them. */
+  draw(isWhole = false) {
     const [width, height] = [this.#size.width, this.#size.height];
-    const top = Math.max(0, this.box.scrollTop / this.#scale - MARGIN);
-    const bottom = Math.min(height, (this.box.scrollTop + this.box.clientHeight) / this.#scale + MARGIN);
+    const top = isWhole ? 0 : Math.max(0, this.box.scrollTop / this.#scale - MARGIN);
+    const bottom = isWhole ? height : Math.min(height, (this.box.scrollTop + this.box.clientHeight) / this.#scale + MARGIN);
     const seen = this.#shapes.filter((shape) => shape.y + shape.h >= top && shape.y <= bottom);
     const attributes = { width: width * this.#scale, height: Math.max(0, bottom - top) * this.#scale, viewBox: `0 ${top} ${width} ${Math.max(0, bottom - top)}` };
     Object.entries(attributes).forEach(([name, value]) => this.svg.setAttribute(name, value));

@@ -2,6 +2,7 @@
 
 import { linesOf } from "../account.mjs";
 import { statementsOf, tokensOf } from "./tokens.mjs";
+import { isAsExpected } from "./lesson.mjs";
 import { Journal } from "./journal.mjs";
 
 const PENDING_UP_TO = 400;
@@ -14,6 +15,12 @@ export function placeOfByte(text, byte) {
   return { at: before.length, line: lines.length, column: [...lines.at(-1)].length + 1, words: [...words].slice(0, 60).join("") };
 }
 
+// Where the wrong word ends; a character that begins no word is marked alone.
+function endOf(text, { word, end }) {
+  const { at } = placeOfByte(text, word);
+  return Math.max(placeOfByte(text, end).at, at + String.fromCodePoint(text.codePointAt(at) ?? 0).length);
+}
+
 // What the engine says of the fault of a text that begins with it: the word, and what might have stood there or is known of it.
 function toldOf(engine, text) {
   return /^1 fault 0\n  line \d+, column \d+: (.*)/.exec(engine.run(text, { explain: true }).transcript)?.[1] ?? "";
@@ -22,7 +29,7 @@ function toldOf(engine, text) {
 export class Replay {
   /**
    * The place at which no statement begins, that of the first word that can't stand where it does, and what is told of it.
-   * @type {{at: number, line: number, column: number, words: string, byte: number, word: ReturnType<typeof placeOfByte>, isCut: boolean, told: string} | null}
+   * @type {{at: number, line: number, column: number, words: string, byte: number, word: ReturnType<typeof placeOfByte>, end: number, isCut: boolean, told: string} | null}
    */
   fault = null;
 
@@ -48,7 +55,7 @@ export class Replay {
     const { fault } = this.session;
     if (fault) {
       const place = placeOfByte(this.script, fault.at);
-      this.fault = { ...place, byte: fault.at, word: placeOfByte(this.script, fault.word), isCut: fault.isCut, told: toldOf(this.engine, this.script.slice(place.at)) };
+      this.fault = { ...place, byte: fault.at, word: placeOfByte(this.script, fault.word), end: endOf(this.script, fault), isCut: fault.isCut, told: toldOf(this.engine, this.script.slice(place.at)) };
     }
     this.count = statements;
     this.at = 0;
@@ -91,7 +98,7 @@ export class Replay {
     const texts = linesOf(lines), catalogue = this.session.catalogue();
     return {
       number, answer, line: texts[0], lines: outcome.kind === "rows" ? [] : texts.slice(1), account, changes, isOpen, work, catalogue,
-      tables: this.tables(catalogue), pending: this.pending(catalogue), columns: this.columnsOf(outcome, number),
+      savepoints: this.journal.standing, tables: this.tables(catalogue), pending: this.pending(catalogue), columns: this.columnsOf(outcome, number),
     };
   }
 
@@ -110,6 +117,20 @@ export class Replay {
       const values = this.session.query(`SELECT * FROM ${name};`);
       const numbers = this.journal.numbers(name, values);
       return { name, rows: values.map((row, at) => ({ row: numbers?.[at] ?? null, values: row })) };
+    });
+  }
+
+  /** Executes statements one after the other behind the script, each alone; its line, and whether it is as expected. */
+  check(checks) {
+    this.goTo(this.count);
+    this.isRead = false;
+    return checks.map((check) => {
+      const { statements } = this.session.read(check.statement);
+      if (statements !== 1 || this.session.fault) {
+        return { isPassed: false, said: "this check is no single statement" };
+      }
+      const outcome = this.session.attempt(0);
+      return { isPassed: isAsExpected(check, outcome), said: linesOf(outcome.lines)[0].replace(/^1 /, "") };
     });
   }
 

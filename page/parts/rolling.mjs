@@ -1,6 +1,7 @@
 // A list of rows of one height, of which only those that are seen are in the page.
 
 import { element } from "./elements.mjs";
+import { onPrint } from "./print.mjs";
 
 const MARGIN = 8;
 
@@ -8,6 +9,7 @@ export class Rolling {
   // The rows that are in the page.
   first = 0;
   last = 0;
+  #isWhole = false;
 
   /**
    * @param {HTMLElement} box the element that scrolls
@@ -23,6 +25,10 @@ export class Rolling {
     this.sheet = element("div", { class: "rolling", role: "presentation" });
     this.box.replaceChildren(...head, this.sheet);
     this.box.addEventListener("scroll", () => this.draw());
+    onPrint(this.sheet, (isWhole) => {
+      this.#isWhole = isWhole;
+      this.draw(true);
+    });
     new ResizeObserver(() => this.draw()).observe(this.box);
   }
 
@@ -35,8 +41,8 @@ export class Rolling {
 
   /** Makes the rows that are seen, and drops those that aren't. */
   draw(isNew = false) {
-    const first = Math.max(0, Math.floor(this.box.scrollTop / this.rowHeight) - MARGIN);
-    const last = Math.min(this.count, Math.ceil((this.box.scrollTop + this.box.clientHeight) / this.rowHeight) + MARGIN);
+    const first = this.#isWhole ? 0 : Math.max(0, Math.floor(this.box.scrollTop / this.rowHeight) - MARGIN);
+    const last = this.#isWhole ? this.count : Math.min(this.count, Math.ceil((this.box.scrollTop + this.box.clientHeight) / this.rowHeight) + MARGIN);
     if (isNew || first !== this.first || last !== this.last) {
       [this.first, this.last] = [first, last];
       this.sheet.replaceChildren(...Array.from({ length: Math.max(0, last - first) }, (_, at) => this.#row(first + at)));

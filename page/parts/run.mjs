@@ -75,6 +75,11 @@ export class Run {
     return this.#busy(async () => (await this.client.call("transcript", { script, options: this.limits() })).transcript);
   }
 
+  /** What comes of the checks of a lesson behind a script. */
+  async check(script, checks) {
+    return this.#busy(async () => this.client.call("check", { script, checks, options: this.limits() }));
+  }
+
   async #busy(work) {
     this.#busyCalls += 1;
     this.onBusy?.(true);

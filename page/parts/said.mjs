@@ -27,10 +27,12 @@ function rowsOf({ answer, columns }) {
   return element("div", { class: "rows" }, grid({ heads, rows, keys: [], label: "Rows of the query", empty: "no rows" }));
 }
 
-function workOf({ work, isOpen, answer }) {
+function workOf({ work, isOpen, answer, savepoints }) {
   const changes = answer.kind === "changed" || work.changes > 0 ? `${count(work.changes, "row change")}, ${count(work.lookups, "look-up")} of keys. ` : "";
-  return element("p", { class: "why note" }, `${changes}${isOpen ? "A transaction is open." : "No transaction is open."}`);
+  return element("p", { class: "why note" }, `${changes}${isOpen ? `A transaction is open${savepointsOf(savepoints)}.` : "No transaction is open."}`);
 }
+
+const savepointsOf = (names) => (names.length === 0 ? "" : `; ${names.length === 1 ? "the savepoint" : "savepoints"} ${names.join(", ")} ${names.length === 1 ? "stands" : "stand"}`);
 
 export const count = (number, word) => `${number.toLocaleString("en")} ${word}${number === 1 ? "" : "s"}`;
 

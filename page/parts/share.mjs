@@ -89,6 +89,9 @@ export class TextFault extends Error {}
 /** Whether a text is short enough for a script. */
 export const isScript = (text) => new TextEncoder().encode(text).length <= MOST_BYTES;
 
+/** A text without the byte order mark that some editors put at the beginning of a file. */
+export const withoutMark = (text) => text.replace(/^\ufeff/, "");
+
 /** The text of a file, tested: a script is UTF-8 and has at most 1,048,576 bytes. */
 export function textOf(bytes) {
   if (bytes.length > MOST_BYTES) {

@@ -4,11 +4,24 @@ import { units } from "./groups.mjs";
 
 export class Sheet {
   shapes = [];
+  // How many boxes of a kind stand together at most.
+  most = Infinity;
 
   /** @param {number} characterWidth in pixels @param {import("./schema.mjs").Schema} schema names the columns */
   constructor(characterWidth, schema) {
     this.characterWidth = characterWidth;
     this.schema = schema;
+  }
+
+  /** Begins anew, with at most so many boxes of a kind together. */
+  begin(most) {
+    this.shapes = [];
+    this.most = most;
+  }
+
+  /** Whether something isn't shown. */
+  get isFolded() {
+    return this.shapes.some((shape) => / folded$/.test(shape.name));
   }
 
   /** How wide a text is, in pixels. */

@@ -47,6 +47,16 @@ const calls = {
     return engine.run(script, options);
   },
 
+  // The checks of a lesson over a script, in a session of their own.
+  check({ script, checks, options }) {
+    const own = new Replay(engine, script, options);
+    try {
+      return { fault: own.fault, results: own.fault ? [] : own.check(checks) };
+    } finally {
+      own.session.close();
+    }
+  },
+
   view({ number }) {
     return { detail: replay.view(number) };
   },
