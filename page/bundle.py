@@ -1,6 +1,6 @@
 """Makes sqlkeep.html: the page with the engine, its scripts and the examples in one file, which asks for nothing else.
 
-    bundle.py FOLDER     of FOLDER/sqlkeep.wasm, into FOLDER/sqlkeep.html
+    bundle.py FOLDER     of FOLDER/sqlkeep.wasm, into FOLDER/sqlkeep.html; and FOLDER/sqlkeep-element.mjs, for blocks in other pages
 """
 import base64
 import gzip
@@ -15,6 +15,8 @@ import documents
 HERE = Path(__file__).resolve().parent
 IMPORT = re.compile(r'^import \{([^}]*)\} from "(\.[^"]+)";\n', re.M)
 EXPORT = re.compile(r"^export ((?:async )?(?:class|const|function\*?) (\w+))", re.M)
+# What only readers of the sources need.
+COMMENT = re.compile(r"^[ \t]*(//[^\n]*|/\*\*.*?\*/)\n", re.M | re.S)
 PROVED = "The engine is compiled to WebAssembly from the proved library."
 UNPROVED = "The engine is compiled to WebAssembly from the sources, without proof."
 
@@ -33,7 +35,7 @@ def as_function(file, files):
     text = file.read_text("utf-8")
     exported = [name for _, name in EXPORT.findall(text)]
     text = IMPORT.sub(lambda found: f"const {{{found[1]}}} = module_{files.index((file.parent / found[2]).resolve())};\n", text)
-    text = EXPORT.sub(r"\1", text)
+    text = COMMENT.sub("", EXPORT.sub(r"\1", text))
     if re.search(r"</script|<!--|^import\b|^export\b", text, re.M | re.I):
         raise SystemExit(f"{file.name} has words that end a script, or an import or export that isn't known")
     return f"const module_{files.index(file)} = (() => {{\n{text}return {{ {', '.join(exported)} }};\n}})();\n"
@@ -59,8 +61,15 @@ def page(wasm, is_proved):
     return re.sub(r"/\*([A-Z]+)\*/", lambda found: parts[found[1]], (HERE / "sqlkeep.html").read_text("utf-8"))
 
 
+def blocks():
+    """The text of sqlkeep-element.mjs, which makes blocks of SQL in any page."""
+    parts = {"WORKER": one_script(HERE / "parts" / "worker.mjs"), "STYLE": (HERE / "style.css").read_text("utf-8") + (HERE / "block.css").read_text("utf-8")}
+    return re.sub(r'"/\*([A-Z]+)\*/"', lambda found: json.dumps(parts[found[1]], ensure_ascii=False), one_script(HERE / "sqlkeep-element.mjs"))
+
+
 def write(folder, is_proved):
-    """Writes sqlkeep.html beside sqlkeep.wasm."""
+    """Writes sqlkeep.html and sqlkeep-element.mjs beside sqlkeep.wasm."""
+    (folder / "sqlkeep-element.mjs").write_text(blocks(), "utf-8")
     (folder / "sqlkeep.html").write_text(page((folder / "sqlkeep.wasm").read_bytes(), is_proved), "utf-8")
 
 

@@ -23,6 +23,7 @@ HERE = Path(__file__).resolve().parent
 ROOT = HERE.parent
 sys.dont_write_bytecode = True
 sys.path[:0] = [str(HERE), str(ROOT / "page")]
+import browser_blocks  # noqa: F401
 import browser_lessons  # noqa: F401
 import browser_pictures  # noqa: F401
 import browser_scripts

@@ -74,7 +74,7 @@ def a_large_picture_is_folded_and_unfolds(page):
 
 @test
 def savepoints_that_stand_are_told(page):
-    page.run_script("SAVEPOINT a;\nSTART TRANSACTION;\nSAVEPOINT a;\nSAVEPOINT b;\nROLLBACK TO a;\nCOMMIT;")
+    page.run_script("SAVEPOINT a;\nSTART TRANSACTION;\nSAVEPOINT a;\nSAVEPOINT b;\nROLLBACK TO SAVEPOINT a;\nCOMMIT;")
     found = []
     for number in (2, 3, 4, 5, 6):
         page.click(f"#answer-{number}")

@@ -1,6 +1,6 @@
 // What the buttons, the keys and the lists of the page do.
 
-import { Answers, signOf } from "./answers.mjs";
+import { Answers } from "./answers.mjs";
 import { byId, element } from "./elements.mjs";
 import { Editor } from "./editor.mjs";
 import { Examples } from "./examples.mjs";
@@ -11,6 +11,7 @@ import { Limits } from "./limits.mjs";
 import { Panes } from "./panes.mjs";
 import { Run } from "./run.mjs";
 import { count } from "./said.mjs";
+import { itemsOf, marksOf, wrongOf } from "./shown.mjs";
 import { addressOf, scriptOf, textOf, withoutMark } from "./share.mjs";
 
 // So long a run takes before the page says that it goes on, and between two looks at it.
@@ -370,7 +371,7 @@ export class Controls {
   // The answers so far, the statement that runs, and how long it does.
   #showRunning(time) {
     if (this.run.answers.length !== this.answers.items.length) {
-      this.answers.show(this.#items());
+      this.answers.show(itemsOf(this.run, this.editor));
     }
     const whole = this.run.count > 0 ? ` statement ${(this.run.answers.length + 1).toLocaleString("en")} of ${this.run.count.toLocaleString("en")}` : " the script";
     this.#say(`Running${whole}${time < 1000 ? "" : `, for ${Math.floor(time / 1000)} s`}`);
@@ -398,27 +399,10 @@ export class Controls {
     }
   }
 
-  // The answers with the texts of their statements, and the fault after them.
-  #items() {
-    const { answers, fault, isWhole } = this.run;
-    const text = (at) => (this.editor.statements[at] ? this.editor.text.slice(this.editor.statements[at].at, this.editor.statements[at].end) : "");
-    const items = answers.map((answer, at) => ({ ...answer, text: text(at), at: this.editor.statements[at]?.at }));
-    if (fault && isWhole) {
-      items.push({ line: `${answers.length + 1} fault ${fault.byte}`, kind: "fault", pending: null, text: fault.words, at: fault.at });
-    }
-    return items;
-  }
-
   #showAnswers() {
-    const items = this.#items();
+    const items = itemsOf(this.run, this.editor);
     this.answers.show(items);
-    this.editor.mark(items.map(({ at, kind }) => ({ at, sign: signOf(kind), name: kind === "refused" || kind === "fault" ? kind : "ok" })), this.#wrong);
-  }
-
-  // What is underlined: the wrong word, or the statement within which the script ends.
-  get #wrong() {
-    const { fault, isWhole } = this.run;
-    return isWhole && fault ? { at: fault.isCut ? fault.at : fault.word.at, end: fault.isCut ? this.editor.text.length : fault.end } : null;
+    this.editor.mark(marksOf(items), wrongOf(this.run, this.editor));
   }
 
   /** Shows a statement that was executed. */

@@ -9,10 +9,10 @@ const MARGIN = 200, HIGHEST = 3000;
 export const LEAST_SCALE = 0.85;
 
 /** How wide a character of a picture is, in pixels. */
-export function characterWidth() {
+export function characterWidth(root = document.body) {
   const probe = drawing("text", {}, "0".repeat(100));
   const svg = drawing("svg", { class: "probe", width: 10, height: 10 }, probe);
-  document.body.append(svg);
+  root.append(svg);
   const width = probe.getComputedTextLength() / 100;
   svg.remove();
   return width || 7.3;

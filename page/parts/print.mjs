@@ -8,10 +8,10 @@ export function onPrint(part, draw) {
   part.addEventListener("part", () => draw(false));
 }
 
-const tell = (name) => () => document.querySelectorAll(PARTS).forEach((part) => part.dispatchEvent(new Event(name)));
+const tell = (root, name) => () => root.querySelectorAll(PARTS).forEach((part) => part.dispatchEvent(new Event(name)));
 
-/** Listens for the browser's printing. */
-export function listenForPrinting() {
-  addEventListener("beforeprint", tell("whole"));
-  addEventListener("afterprint", tell("part"));
+/** Listens for the browser's printing, for the parts below a root. */
+export function listenForPrinting(root = document) {
+  addEventListener("beforeprint", tell(root, "whole"));
+  addEventListener("afterprint", tell(root, "part"));
 }
