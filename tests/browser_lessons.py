@@ -78,9 +78,9 @@ def checks_tell_what_passes_and_hide_what_they_are(page):
     page.upload("lesson.sql", LESSON.encode())
     page.click("#tour .check")
     equal(page.texts("#tour .checks > p"), ["2 of 3 checks passed."])
-    equal(page.browser.script("return [...document.querySelectorAll('#tour .checks li')].map((each) => [each.className, each.innerText.trim().replace(/\\s+/g, ' ')])"),
-          [["passed", "✓ Check 1 passed. What it checks"], ["passed", "✓ Check 2 passed. What it checks"], ["failed", "✗ Check 3 did not pass. What it checks"]])
-    equal(page.texts("#tour .checks li:last-child details > *"), ["What it checks", "INSERT INTO t VALUES (3);", "It has to be refused with Violation; it answers: ok 1"])
+    equal(page.browser.script("return [...document.querySelectorAll('#tour .checks details')].map((each) => [each.className, each.innerText.trim()])"),
+          [["passed", "✓ Check 1 passed"], ["passed", "✓ Check 2 passed"], ["failed", "✗ Check 3 did not pass"]])
+    equal(page.texts("#tour .checks details:last-child > *"), ["✗ Check 3 did not pass", "INSERT INTO t VALUES (3);", "It has to be refused with Violation; it answers: ok 1"])
     page.type("CREATE TABLE t (a INT PRIMARY KEY);\nINSERT INTO t VALUES (3), (1);\n")
     page.click("#tour .check")
     equal(page.texts("#tour .checks > p"), ["All checks passed."])
@@ -167,6 +167,19 @@ def run_to_here_executes_up_to_the_caret(page):
     page.browser.script("const area = document.getElementById('script'); area.focus(); area.setSelectionRange(10, 10)")
     page.press("Control", "Shift", "Enter")
     equal([page.text("#statement-head"), len(page.lines())], ["Statement 2 of 3", 2])
+
+
+@test
+def what_is_selected_runs_alone(page):
+    page.run_script("COMMIT;\nCREATE TABLE t (a INT);\nCOMMIT;\n")
+    page.browser.script("const area = document.getElementById('script'); area.focus(); area.setSelectionRange(8, 31)")
+    page.press("Alt", "Enter")
+    equal([page.value("#script"), page.lines()], ["CREATE TABLE t (a INT);", ["1 ok"]])
+    page.browser.script("history.back()")
+    page.browser.wait(lambda: page.value("#script") == "COMMIT;\nCREATE TABLE t (a INT);\nCOMMIT;\n", "the whole script")
+    page.idle()
+    page.click("#selection")
+    equal(page.text("#status"), "Nothing is selected in the script.")
 
 
 @test

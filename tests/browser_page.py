@@ -290,6 +290,14 @@ def texts_of_rows_are_never_elements(page):
     equal(page.browser.script("return [document.querySelectorAll('main img, main b').length, window.hit ?? null]"), [0, None])
 
 
+@test
+def long_values_are_whole(page):
+    for count in (1, 70):
+        page.run_script(f"CREATE TABLE t (a VARCHAR(300));\nINSERT INTO t VALUES {', '.join(['(' + repr('many words ' * 20) + ')'] * count)};\nSELECT a FROM t;")
+        sizes = page.browser.script("return [...document.querySelectorAll('#said .cells span, #rows .cells .value')].map((cell) => [cell.textContent.length, cell.scrollWidth <= cell.clientWidth])")
+        assert len(sizes) >= 2 and all(size == [222, True] for size in sizes), sizes[:3]
+
+
 # ---- the account as a picture
 
 
@@ -623,7 +631,7 @@ def every_control_is_reached_by_the_tab_key(page):
     for _ in range(28):
         page.browser.press("Tab")
         seen.append(page.browser.script("return document.activeElement.id || document.activeElement.className || document.activeElement.tagName"))
-    wanted = ["example", "run", "back", "step", "here", "share", "open", "save", "lesson", "help", "depth", "changes", "script", "transcript", "answers"]
+    wanted = ["example", "run", "back", "step", "here", "selection", "share", "open", "save", "lesson", "help", "depth", "changes", "script", "transcript", "answers"]
     equal([name for name in seen if name in wanted][: len(wanted)], wanted)
 
 
@@ -639,7 +647,7 @@ def the_skip_links_lead_on(page):
 @test
 def controls_have_names(page):
     page.open()
-    names = {"#example": "Example", "#run": "Run", "#back": "Back", "#step": "Step", "#here": "To here", "#stop": "Stop", "#lesson": "Lesson", "#help": "Help", "#share": "Share", "#open": "Open", "#save": "Save", "#transcript": "Save transcript", "#depth": "Trigger depth", "#changes": "Row changes",
+    names = {"#example": "Example", "#run": "Run", "#back": "Back", "#step": "Step", "#here": "To here", "#selection": "Selection", "#stop": "Stop", "#lesson": "Lesson", "#help": "Help", "#share": "Share", "#open": "Open", "#save": "Save", "#transcript": "Save transcript", "#depth": "Trigger depth", "#changes": "Row changes",
              "#script": "Script in SQL", "#answers": "Answers"}
     equal({selector: page.browser.label(selector) for selector in names}, names)
     equal(page.browser.script("return [...document.querySelectorAll('svg[role=img]')].filter((svg) => !svg.getAttribute('aria-label')).length"), 0)

@@ -59,7 +59,7 @@ export class Controls {
   }
 
   #listen() {
-    const buttons = { run: () => this.runAll(), step: () => this.step(), here: () => this.runToHere(), back: () => this.back(), stop: () => this.run.stop(), share: () => this.share(), open: () => byId("file").click(), save: () => this.save(), transcript: () => this.saveTranscript(), help: () => byId("legend").showModal(), lesson: () => this.editLesson() };
+    const buttons = { run: () => this.runAll(), step: () => this.step(), here: () => this.runToHere(), selection: () => this.runSelection(), back: () => this.back(), stop: () => this.run.stop(), share: () => this.share(), open: () => byId("file").click(), save: () => this.save(), transcript: () => this.saveTranscript(), help: () => byId("legend").showModal(), lesson: () => this.editLesson() };
     Object.entries(buttons).forEach(([id, work]) => byId(id).addEventListener("click", work));
     byId("example").addEventListener("change", () => this.#choseExample(byId("example").value));
     byId("file").addEventListener("change", () => this.#openFile());
@@ -69,7 +69,7 @@ export class Controls {
   }
 
   #key(event) {
-    const keys = { "Control+Enter": () => this.runAll(), "Meta+Enter": () => this.runAll(), "Control+Shift+Enter": () => this.runToHere(), "Meta+Shift+Enter": () => this.runToHere(), "Alt+ArrowDown": () => this.step(), "Alt+ArrowUp": () => this.back() };
+    const keys = { "Control+Enter": () => this.runAll(), "Meta+Enter": () => this.runAll(), "Control+Shift+Enter": () => this.runToHere(), "Meta+Shift+Enter": () => this.runToHere(), "Alt+Enter": () => this.runSelection(), "Alt+ArrowDown": () => this.step(), "Alt+ArrowUp": () => this.back() };
     const name = `${event.ctrlKey ? "Control+" : ""}${event.metaKey ? "Meta+" : ""}${event.altKey ? "Alt+" : ""}${event.shiftKey ? "Shift+" : ""}${event.key}`;
     // A list of choices has Alt and an arrow for itself.
     if (name in keys && event.target.tagName !== "SELECT") {
@@ -320,6 +320,17 @@ export class Controls {
     if (number > 0) {
       await (number <= this.run.answers.length ? this.choose(number) : this.#execute(number, () => Math.min(number, this.run.count + (this.run.fault ? 1 : 0))));
     }
+  }
+
+  /** Executes what is selected, as a script of its own: Back leads back to the whole one. */
+  async runSelection() {
+    const { selected } = this.editor;
+    if (selected.trim() === "") {
+      this.#say("Nothing is selected in the script.");
+      return;
+    }
+    await this.#enter(this.examples.add(selected));
+    await this.runAll();
   }
 
   /** Goes on to the next statement, and executes it where that wasn't done. */

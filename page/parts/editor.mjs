@@ -92,6 +92,11 @@ export class Editor {
     this.draw();
   }
 
+  /** What is selected. */
+  get selected() {
+    return this.text.slice(this.area.selectionStart, this.area.selectionEnd);
+  }
+
   #forget() {
     this.#chosen = null;
     this.#fault = null;

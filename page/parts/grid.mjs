@@ -5,7 +5,8 @@ import { element } from "./elements.mjs";
 import { units } from "./groups.mjs";
 import { Rolling } from "./rolling.mjs";
 
-const HEIGHT = 22, FEW = 60, WIDEST = 40;
+// Of few rows a long value goes over several lines; of many rows each has one line, and is as wide as its values.
+const HEIGHT = 22, FEW = 60, WIDEST = 40, WIDEST_OF_MANY = 4000;
 
 const shown = (value) => writtenValue(value).replaceAll("\n", "↵").replaceAll("\t", "⇥");
 
@@ -37,7 +38,7 @@ export function grid({ heads, rows, keys, label, empty }) {
 
 function columnsOf(heads, rows, hasNumbers) {
   const count = rows[0]?.values.length ?? heads.length;
-  const wide = (text) => Math.min(WIDEST, units(text));
+  const wide = (text) => Math.min(rows.length > FEW ? WIDEST_OF_MANY : WIDEST, units(text));
   const widths = Array.from({ length: count }, (_, at) => rows.reduce((most, row) => Math.max(most, wide(textOf(row, at))), units(heads[at] ?? "")));
   const number = hasNumbers ? [Math.max(3, ...[rows.at(-1)?.row ?? 0].map((row) => String(row).length)) + 2] : [];
   return [...number, ...widths].map((width) => `calc(${width}ch + 1.1rem + 1px)`).join(" ");
@@ -60,7 +61,7 @@ function rowOf(row, hasNumbers) {
 
 function cellOf(row, value, at) {
   const name = value === null ? "value null" : "value";
-  const title = units(shown(value)) > WIDEST ? writtenValue(value) : null;
+  const title = units(shown(value)) > WIDEST_OF_MANY ? writtenValue(value) : null;
   if (!changedAt(row, at)) {
     return element("span", { class: name, role: "cell", title }, shown(value));
   }

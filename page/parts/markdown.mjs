@@ -34,5 +34,12 @@ export function blocksOfMarkdown(lines, front = []) {
       isOpen = true;
     }
   }
-  return blocks.map(({ isItem, lines: own }, at) => element(isItem ? "li" : "p", {}, ...(at === 0 ? front : []), ...inline(own.join(" "))));
+  return blocks.reduce((made, { isItem, lines: own }, at) => {
+    const block = element(isItem ? "li" : "p", {}, ...(at === 0 ? front : []), ...inline(own.join(" ")));
+    if (isItem && made.at(-1)?.tagName === "UL") {
+      made.at(-1).append(block);
+      return made;
+    }
+    return [...made, isItem ? element("ul", {}, block) : block];
+  }, []);
 }

@@ -42,7 +42,8 @@ const wantedOf = ({ expected, cause, name }) => (expected === "accepts" ? "has t
 /** What came of the checks, as elements: passed or not; what each is about stands behind a button. */
 export function resultsOf(checks, results) {
   const passed = results.filter((result) => result.isPassed).length;
-  const items = results.map((result, at) => element("li", { class: result.isPassed ? "passed" : "failed" }, `${result.isPassed ? "✓ Check" : "✗ Check"} ${at + 1} ${result.isPassed ? "passed" : "did not pass"}. `,
-    element("details", {}, element("summary", {}, "What it checks"), element("pre", { class: "statement-text" }, checks[at].statement), element("p", {}, `It ${wantedOf(checks[at])}; it answers: ${result.said}`))));
-  return [element("p", {}, passed === checks.length ? "All checks passed." : `${passed} of ${checks.length} checks passed.`), element("ol", {}, ...items)];
+  const items = results.map(({ isPassed, said }, at) => element("details", { class: isPassed ? "passed" : "failed" },
+    element("summary", {}, `${isPassed ? "✓" : "✗"} Check ${at + 1} ${isPassed ? "passed" : "did not pass"}`),
+    element("pre", { class: "statement-text" }, checks[at].statement), element("p", {}, `It ${wantedOf(checks[at])}; it answers: ${said}`)));
+  return [element("p", {}, passed === checks.length ? "All checks passed." : `${passed} of ${checks.length} checks passed.`), ...items];
 }
