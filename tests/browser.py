@@ -361,16 +361,30 @@ def made_small(page, file):
     raise SystemExit(f"{file} has {file.stat().st_size:,} bytes with few colours")
 
 
+def lesson_shot(page, name):
+    """A picture of the page with an exercise, checked, up to where the answers begin."""
+    page.browser.size(1280, 640)
+    page.open(f"#{name}")
+    page.click("#tour .check")
+    settled(page)
+    return page.browser.picture()
+
+
+# The pictures that README.md and docs/library/page.md show.
+SHOTS = {
+    "authors": lambda page: page_shot(page, "authors", 1280),
+    "lesson": lambda page: lesson_shot(page, "teams"),
+    "first-account": lambda page: account_shot(page, "first", "light"),
+    "cascades-account": lambda page: account_shot(page, "cascades", "light"),
+}
+
+
 def pictures(page):
-    """Makes docs/page/NAME.png of each example of the tour, NAME-phone.png of three, and NAME-account.png of three, also in dark; the status."""
+    """Makes the pictures of docs/page; the status."""
     PICTURES.mkdir(exist_ok=True)
-    shots = [(each["name"], lambda name=each["name"]: page_shot(page, name, 1280)) for each in documents.tour() if each["lesson"]]
-    shots.append(("authors", lambda: page_shot(page, "authors", 1280)))
-    shots += [(f"{name}-phone", lambda name=name: page_shot(page, name, 400)) for name in ("first", "cascades", "logs")]
-    shots += [(f"{name}-account{ending}", lambda name=name, scheme=scheme: account_shot(page, name, scheme)) for name in ("authors", "first", "cascades") for scheme, ending in (("light", ""), ("dark", "-dark"))]
-    for name, make in shots:
+    for name, make in SHOTS.items():
         file = PICTURES / f"{name}.png"
-        file.write_bytes(make())
+        file.write_bytes(make(page))
         how = made_small(page, file)
         print(f"{file.relative_to(ROOT)}: {file.stat().st_size:,} bytes, {how}")
     return 0

@@ -137,7 +137,7 @@ def main(words):
         link(sandbox)
         lower(sandbox, to)
     bundle.write(to, not is_unproved)
-    say(f"sqlkeep.wasm, sqlkeep.mjs and sqlkeep.html are in {os.path.relpath(to, ROOT)}")
+    say(f"sqlkeep.wasm, sqlkeep.mjs, sqlkeep-element.mjs and sqlkeep.html are in {os.path.relpath(to, ROOT)}")
     return 0
 
 

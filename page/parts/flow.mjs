@@ -105,7 +105,7 @@ export class Flow {
     const gap = across > 1 ? LINE_GAP : ROW_GAP;
     group.rows.forEach((row, at) => {
       const left = x + (at % across) * (width + GUTTER), base = top + Math.floor(at / across) * (ROW + gap);
-      const box = Object.assign(sheet.box(left, base, width, ROW, `row ${row.kind}`, row.title), { isAcross: across > 1 });
+      const box = Object.assign(sheet.box(left, base, width, ROW, `row ${row.kind}`, row.title), { isAcross: across > 1, number: row.row });
       sheet.text(left + PAD, base + 16, row.label, row.kind === "absent" ? "violating" : row.kind);
       this.#cells(group, row.cells, left, base + 16);
       [row, ...(row.covers ?? [])].forEach((each) => column.boxes.set(`${each.table} ${each.row}`, box));
@@ -192,13 +192,14 @@ export class Flow {
 
   #pillsBelow(links, at, x, y, width) {
     this.#ends(links, at).forEach((link, place) => {
-      const w = this.#lineWidth(link), left = x + MARGIN + (width - w) / 2;
+      const origin = originOf(link), w = this.#lineWidth(link) + this.sheet.width(origin), left = x + MARGIN + (width - w) / 2;
       const top = y + place * (PILL_LINE + PILL_GAP), middle = top + PILL_LINE / 2;
       const outX = x + MARGIN + width + 6 + (place % 4) * 4, inX = x + MARGIN - 8 - (place % 4) * 4;
       this.sheet.box(left, top, w, PILL_LINE, `pill ${link.name}`);
       const [first, second] = link.words;
-      this.sheet.text(left + PAD, top + 16, first, "strong");
-      this.sheet.text(left + PAD + this.sheet.width(`${first} `), top + 16, second, link.name || "accent");
+      this.sheet.text(left + PAD, top + 16, origin, "soft");
+      this.sheet.text(left + PAD + this.sheet.width(origin), top + 16, first, "strong");
+      this.sheet.text(left + PAD + this.sheet.width(`${origin}${first} `), top + 16, second, link.name || "accent");
       link.from.forEach((box) => this.#out(box, outX, [left + w, middle], link.name));
       link.to.forEach((box) => this.#in([left, middle], inX, box, link.name));
     });
@@ -231,6 +232,9 @@ export class Flow {
     this.sheet.path(x, y, toY, `arrow ${name}`, `M0 0H${over - x}V${toY - y}H${toX - x}`);
   }
 }
+
+// The row that a link begins at, in words where its line has to share its way with those of others.
+const originOf = ({ from: [box, ...others] }) => (box?.isAcross && box.number !== null && others.length === 0 ? `row ${box.number} ` : "");
 
 // How many boxes of a group stand beside each other in a room.
 const acrossOf = (group, room) => (group.rows.length > FEW ? Math.max(1, Math.floor((room + GUTTER) / (group.w + GUTTER))) : 1);
