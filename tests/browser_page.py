@@ -491,7 +491,7 @@ def a_waiting_row_has_its_reason(page):
 @test
 def words_are_not_broken(page):
     """At no width a word of a pane goes over two lines, except in code, which may be long."""
-    for width, name in ((1280, "rings&n=8"), (400, "rings&n=8"), (1280, "savepoints&n=12"), (400, "first&n=6"), (400, "nulls&n=6"), (400, "guards&n=11")):
+    for width, name in ((1280, "rings&n=8"), (400, "rings&n=8"), (1280, "savepoints&n=12"), (400, "first&n=6"), (400, "nulls&n=6"), (400, "guards&n=11"), (1280, "teams"), (400, "library")):
         page.browser.size(width, 900)
         page.open(f"#e={name}")
         equal([width, name, page.browser.script(BROKEN_WORDS)], [width, name, []])

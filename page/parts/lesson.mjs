@@ -38,6 +38,9 @@ const trimmed = (text, token) => text.slice(token.at, token.end).trimEnd();
 
 /** A script with its notes: each stands above the statement that it stood before, or at the end where there are fewer. */
 export function joined(script, notes) {
+  if (notes.length === 0) {
+    return script;
+  }
   const statements = statementsOf(tokensOf(script));
   const placeOf = ({ before }) => (before === 1 ? 0 : statements[before - 1] ? script.lastIndexOf("\n", statements[before - 1].at) + 1 : script.length);
   let text = "", from = 0;
