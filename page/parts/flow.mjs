@@ -1,14 +1,13 @@
-// Columns of row boxes with links between them: side by side where there is room, and otherwise one below the other.
+// Columns of row boxes with links between them: side by side where there is room, and otherwise one below the other. Of many rows below
+// each other every link has a line, with the rows that it reached.
 
 import { units } from "./groups.mjs";
 
 const CELL = 10, PAD = 7, HEAD = 20, ROW = 24, ROW_GAP = 4, GROUP_GAP = 12, CAPTION = 22;
 // The room for lines beside pills: more where there are more lines.
 const ARM = 14, ARM_FOR_EACH = 1.5, MOST_ARM = 30;
-// Boxes side by side: between them, between their lines, and how many stand below each other before.
-const GUTTER = 14, LINE_GAP = 16, FEW = 3;
-// How far below a box a line goes that leaves it.
-const GAP_LINE = 5;
+// Boxes in lines: what is between them and between their lines, how far below them an arrow passes, and how many aren't put in lines.
+const GUTTER = 14, LINE_GAP = 16, UNDER = 11, FEW = 3;
 const PILL = 36, PILL_GAP = 8, PILL_LINE = 24, MARGIN = 22, TIP = 7;
 
 const textOf = (cell) => cell.map((piece) => piece.text).join("");
@@ -58,14 +57,18 @@ export class Flow {
 
   /** Puts the columns at a place; what they take up to the bottom and to the right. */
   place(x, y, room) {
-    return this.columns.length > 1 && this.width() > room ? this.#below(x, y, room) : this.#beside(x, y);
+    if (this.columns.length === 1 || this.width() <= room) {
+      return this.#beside(x, y);
+    }
+    const lines = this.columns.map((_, at) => this.#linesTo(at));
+    return this.#isListed(lines, room) ? this.#listed(lines, x, y, room) : this.#below(x, y);
   }
 
   #beside(x, y) {
     let left = x, bottom = y;
     this.columns.forEach((column, at) => {
       column.boxes = new Map();
-      bottom = Math.max(bottom, this.#column(column, left, y, column.w, 0));
+      bottom = Math.max(bottom, this.#column(column, left, y, column.w));
       left += column.w + this.#gap(at);
     });
     left = x;
@@ -77,8 +80,17 @@ export class Flow {
     return { bottom, right: x + this.width() };
   }
 
-  // The rows of a column from the top down; its bottom. In the room there may be several beside each other.
-  #column(column, x, y, width, room) {
+  // The rows of a column from the top down; its bottom.
+  #column(column, x, y, width) {
+    let top = this.#front(column, x, y, width);
+    column.groups.forEach((group, at) => {
+      top = this.#group(column, group, x, top + (at > 0 ? GROUP_GAP : 0), width);
+    });
+    return top;
+  }
+
+  // The caption of a column, and the triggers that ran before its rows; their bottom.
+  #front(column, x, y, width) {
     let top = y;
     if (column.caption) {
       this.sheet.text(x, top + 12, column.caption, "soft sans");
@@ -87,31 +99,35 @@ export class Flow {
     column.before.forEach((place) => {
       top = place(x, top, width).bottom + GROUP_GAP;
     });
-    column.groups.forEach((group, at) => {
-      const across = acrossOf(group, room);
-      top = this.#group(column, group, x, top + (at > 0 ? GROUP_GAP : 0), across > 1 ? group.w : width, across);
-    });
     return top;
   }
 
-  #group(column, group, x, y, width, across) {
-    const { sheet } = this;
-    let top = y;
-    if (group.head) {
-      sheet.text(x + PAD, y + 13, group.head, "strong");
-      this.#cells(group, group.columns.map((name) => [{ text: name, name: "soft small" }]), x, y + 13);
-      top += HEAD + (across > 1 ? LINE_GAP - ROW_GAP : 0);
-    }
-    const gap = across > 1 ? LINE_GAP : ROW_GAP;
-    group.rows.forEach((row, at) => {
-      const left = x + (at % across) * (width + GUTTER), base = top + Math.floor(at / across) * (ROW + gap);
-      const box = Object.assign(sheet.box(left, base, width, ROW, `row ${row.kind}`, row.title), { isAcross: across > 1, number: row.row });
-      sheet.text(left + PAD, base + 16, row.label, row.kind === "absent" ? "violating" : row.kind);
-      this.#cells(group, row.cells, left, base + 16);
+  #group(column, group, x, y, width) {
+    let top = this.#heads(group, x, y);
+    group.rows.forEach((row) => {
+      const box = this.#box(group, row, x, top, width);
       [row, ...(row.covers ?? [])].forEach((each) => column.boxes.set(`${each.table} ${each.row}`, box));
       column.boxes.set(row, box);
+      top += ROW + ROW_GAP;
     });
-    return top + Math.ceil(group.rows.length / across) * (ROW + gap) - gap;
+    return top - ROW_GAP;
+  }
+
+  // The names of a group's table and columns; their bottom.
+  #heads(group, x, y) {
+    if (!group.head) {
+      return y;
+    }
+    this.sheet.text(x + PAD, y + 13, group.head, "strong");
+    this.#cells(group, group.columns.map((name) => [{ text: name, name: "soft small" }]), x, y + 13);
+    return y + HEAD;
+  }
+
+  #box(group, row, x, y, width) {
+    const box = this.sheet.box(x, y, width, ROW, `row ${row.kind}`, row.title);
+    this.sheet.text(x + PAD, y + 16, row.label, row.kind === "absent" ? "violating" : row.kind);
+    this.#cells(group, row.cells, x, y + 16);
+    return box;
   }
 
   #cells(group, cells, x, base) {
@@ -170,17 +186,15 @@ export class Flow {
   }
 
   // One column below the other, with the lines of links in the margins: out at the right, and in at the left.
-  #below(x, y, room) {
-    const narrow = Math.max(...this.columns.map((column) => column.w), ...this.links.flat().map((link) => this.#lineWidth(link)));
-    const isAcross = this.columns.some((column) => column.groups.some((group) => acrossOf(group, room - 2 * MARGIN) > 1));
-    const width = isAcross ? Math.max(narrow, room - 2 * MARGIN) : narrow;
+  #below(x, y) {
+    const width = Math.max(...this.columns.map((column) => column.w), ...this.links.flat().map((link) => this.#lineWidth(link)));
     let top = y;
     this.columns.forEach((column, at) => {
       column.boxes = new Map();
       const links = at > 0 ? this.links[at - 1] ?? [] : [];
       const pills = links.length * (PILL_LINE + PILL_GAP);
       const pillsAt = top + (at > 0 ? GROUP_GAP : 0);
-      top = this.#column(column, x + MARGIN, pillsAt + pills + (pills > 0 ? PILL_GAP : 0), narrow, width);
+      top = this.#column(column, x + MARGIN, pillsAt + pills + (pills > 0 ? PILL_GAP : 0), width);
       this.#pillsBelow(links, at - 1, x, pillsAt, width);
     });
     return { bottom: top, right: x + width + 2 * MARGIN };
@@ -192,40 +206,82 @@ export class Flow {
 
   #pillsBelow(links, at, x, y, width) {
     this.#ends(links, at).forEach((link, place) => {
-      const origin = originOf(link), w = this.#lineWidth(link) + this.sheet.width(origin), left = x + MARGIN + (width - w) / 2;
+      const w = this.#lineWidth(link), left = x + MARGIN + (width - w) / 2;
       const top = y + place * (PILL_LINE + PILL_GAP), middle = top + PILL_LINE / 2;
       const outX = x + MARGIN + width + 6 + (place % 4) * 4, inX = x + MARGIN - 8 - (place % 4) * 4;
-      this.sheet.box(left, top, w, PILL_LINE, `pill ${link.name}`);
-      const [first, second] = link.words;
-      this.sheet.text(left + PAD, top + 16, origin, "soft");
-      this.sheet.text(left + PAD + this.sheet.width(origin), top + 16, first, "strong");
-      this.sheet.text(left + PAD + this.sheet.width(`${origin}${first} `), top + 16, second, link.name || "accent");
-      link.from.forEach((box) => this.#out(box, outX, [left + w, middle], link.name));
-      link.to.forEach((box) => this.#in([left, middle], inX, box, link.name));
+      this.#pillInLine(link, "", left, top, w);
+      link.from.forEach((box) => this.#corner([box.x + box.w, box.y + box.h / 2], outX, [left + w, middle], link.name));
+      link.to.forEach((box) => this.#corner([left, middle], inX, [box.x - TIP, box.y + box.h / 2], link.name));
+      link.to.forEach((box) => this.#tip(box.x, box.y + box.h / 2, link.name));
     });
   }
 
-  // Out of a box at its right; where others stand there, down into the gap between the lines.
-  #out(box, over, [toX, toY], name) {
-    const [x, y] = [box.x + box.w, box.y + box.h / 2];
-    if (!box.isAcross) {
-      this.#corner([x, y], over, [toX, toY], name);
-      return;
-    }
-    const from = [x - GUTTER, box.y + box.h];
-    this.sheet.path(from[0], from[1], toY, `arrow ${name}`, `M0 0V${GAP_LINE}H${over - from[0]}V${toY - from[1]}H${toX - from[0]}`);
+  // A pill with its words in one line, and in front of them the row that it comes from.
+  #pillInLine({ words: [first, second], name }, origin, x, y, w) {
+    this.sheet.box(x, y, w, PILL_LINE, `pill ${name}`);
+    this.sheet.text(x + PAD, y + 16, origin, "soft");
+    this.sheet.text(x + PAD + this.sheet.width(origin), y + 16, first, "strong");
+    this.sheet.text(x + PAD + this.sheet.width(`${origin}${first} `), y + 16, second, name || "accent");
   }
 
-  // Into a box from its left; where others stand there, out of the gap above.
-  #in([x, y], over, box, name) {
-    if (!box.isAcross) {
-      this.#corner([x, y], over, [box.x - TIP, box.y + box.h / 2], name);
-      this.#tip(box.x, box.y + box.h / 2, name);
+  // The links to a column: where each begins, in words, and the rows that it reached. A row that another one reached too has its number there.
+  #linesTo(at) {
+    const rows = new Map(this.columns[at].groups.flatMap((group) => group.rows.flatMap((row) => [row, ...(row.covers ?? [])].map((each) => [`${each.table} ${each.row}`, { group, row }]))));
+    const seen = new Set();
+    return (this.links[at - 1] ?? []).map((link) => {
+      const found = link.to.map((end) => rows.get(`${end.table} ${end.row}`)).filter(Boolean);
+      const reached = [...new Set(found.map(({ row }) => row))], origin = originOf(link.from, this.columns[at - 1].groups);
+      const line = { ...link, origin, group: found[0]?.group, rows: reached.map((row) => (seen.has(row) ? numberAlone(row) : row)), w: this.#lineWidth(link) + this.sheet.width(origin) };
+      reached.forEach((row) => seen.add(row));
+      return line;
+    }).filter((line) => line.rows.length > 0);
+  }
+
+  // Whether there are many rows, and room for them beside the pills.
+  #isListed(lines, room) {
+    const groups = this.columns.flatMap((column) => column.groups), pill = Math.max(0, ...lines.flat().map((line) => line.w));
+    return groups.some((group) => group.rows.length > FEW) && groups.every((group) => pill + 3 * GUTTER + group.w <= room);
+  }
+
+  #listed(lines, x, y, room) {
+    let top = y;
+    this.columns.forEach((column, at) => {
+      top = this.#front(column, x, top + (at > 0 ? GROUP_GAP + UNDER : 0), room);
+      column.groups.forEach((group, place) => {
+        top = this.#reached(group, lines[at].filter((line) => line.group === group), x, top + (place > 0 ? GROUP_GAP : 0), room);
+      });
+    });
+    return { bottom: top, right: x + room };
+  }
+
+  // The rows of a group beside the links that reached them, and those that none reached; their bottom.
+  #reached(group, lines, x, y, room) {
+    const left = lines.length > 0 ? x + Math.max(...lines.map((line) => line.w)) + 3 * GUTTER : x;
+    const across = Math.max(1, Math.floor((x + room - left + GUTTER) / (group.w + GUTTER)));
+    const boxesOf = (rows, top) => rows.map((row, at) => this.#box(group, row, left + (at % across) * (group.w + GUTTER), top + Math.floor(at / across) * (ROW + LINE_GAP), group.w));
+    let top = this.#heads(group, left, y);
+    for (const line of lines) {
+      const boxes = boxesOf(line.rows, top);
+      this.#pillInLine(line, line.origin, x, top, line.w);
+      boxes.forEach((box) => this.#arrowTo(box, x + line.w, top + PILL_LINE / 2, left, line.name));
+      top = boxes.at(-1).y + ROW + LINE_GAP;
+    }
+    const reached = new Set(lines.flatMap((line) => line.rows));
+    const others = boxesOf(group.rows.filter((row) => !reached.has(row)), top);
+    return others.length > 0 ? others.at(-1).y + ROW : top - LINE_GAP;
+  }
+
+  // From a pill to a box: to the first of a line from its left, to the others from below.
+  #arrowTo(box, x, y, left, name) {
+    const turn = left - GUTTER - TIP;
+    if (box.x === left) {
+      this.#corner([x, y], turn, [box.x - TIP, box.y + ROW / 2], name);
+      this.#tip(box.x, box.y + ROW / 2, name);
       return;
     }
-    const toX = box.x + GUTTER, gap = box.y - 2 * GAP_LINE;
-    this.sheet.path(x, y, box.y, `arrow ${name}`, `M0 0H${over - x}V${gap - y}H${toX - x}V${box.y - TIP - y}`);
-    this.sheet.path(toX, box.y, box.y, `tip ${name}`, `M0 0l-4 ${-TIP}h8z`);
+    const toX = box.x + GUTTER, bottom = box.y + ROW;
+    this.sheet.path(x, y, bottom + UNDER, `arrow ${name}`, `M0 0H${turn - x}V${bottom + UNDER - y}H${toX - x}V${bottom + TIP - y}`);
+    this.sheet.path(toX, bottom, bottom + TIP, `tip ${name}`, `M0 0l-4 ${TIP}h8z`);
   }
 
   #corner([x, y], over, [toX, toY], name) {
@@ -233,11 +289,17 @@ export class Flow {
   }
 }
 
-// The row that a link begins at, in words where its line has to share its way with those of others.
-const originOf = ({ from: [box, ...others] }) => (box?.isAcross && box.number !== null && others.length === 0 ? `row ${box.number} ` : "");
+// Where a link begins, in words: its row, or how many there are, with the table where there are several.
+function originOf(from, groups) {
+  if (from.length === 0) {
+    return "";
+  }
+  const table = groups.length > 1 ? `${from[0].table} ` : "";
+  return `${table}${from.length === 1 ? `row ${from[0].row}` : `${from.length.toLocaleString("en")} rows`} `;
+}
 
-// How many boxes of a group stand beside each other in a room.
-const acrossOf = (group, room) => (group.rows.length > FEW ? Math.max(1, Math.floor((room + GUTTER) / (group.w + GUTTER))) : 1);
+// The box of a row that stands there already.
+const numberAlone = (row) => ({ ...row, label: row.row === null ? row.label : `row ${row.row}`, kind: row.row === null ? row.kind : "plain", cells: [] });
 
 // Heights at least a step apart, each as near as can be to the one that is wanted; none is less than the first that is allowed.
 function spread(wanted, step, least) {
