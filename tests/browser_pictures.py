@@ -48,9 +48,10 @@ def each_wave_has_an_arrow_from_each_row(page):
     """Each of the 31 rows with children has a pill; each of the 62 children has an arrow."""
     page.run_script(TREE)
     page.click("#answer-3")
-    page.click("#unfold")
-    equal([page.texts("#picture svg text").count("ABOVE"), page.count("#picture .tip"), page.browser.script(CROSSINGS)], [31, 62, []])
-    equal(page.text("#unfold"), "Fold the picture")
+    equal([page.count("#picture .tip"), page.browser.script(CROSSINGS)], [62, []])
+    words = page.texts("#picture svg text")
+    equal([word.strip() for word in words if word.startswith("row ")], [f"row {n}" for n in range(1, 32)])
+    equal([words.count("ABOVE"), words.count("CASCADE"), height(page) < 2000], [31, 31, True])
 
 
 @test
@@ -119,9 +120,30 @@ def paper_has_the_whole_script_and_no_buttons(page):
 
 
 @test
+def paper_is_white(page):
+    page.browser.scheme("dark")
+    page.open()
+    page.browser.command("Emulation.setEmulatedMedia", media="print", features=[{"name": "prefers-color-scheme", "value": "dark"}])
+    try:
+        equal(page.colour("ground"), [255, 255, 255])
+    finally:
+        page.browser.command("Emulation.setEmulatedMedia", media="", features=[])
+
+
+@test
+def a_refused_commit_marks_the_new_row_of_a_key(page):
+    page.run_script("CREATE TABLE t (a INT, CONSTRAINT one UNIQUE (a) INITIALLY DEFERRED);\nINSERT INTO t VALUES (1);\nCOMMIT;\nINSERT INTO t VALUES (1);\nCOMMIT;")
+    equal(page.text("#statement-head"), "Statement 5 of 5")
+    equal(page.browser.script("return [...document.querySelectorAll('#picture .row.violating, #picture .row.plain')].map((box) => [box.getAttribute('class'), box.querySelector('title').textContent])"),
+          [["row violating", "T row 2 (1)"], ["row plain", "T row 1 (1)"]])
+
+
+@test
 def a_phone_keeps_run_and_step_in_sight(page):
     page.browser.size(400, 800)
     page.open("#cascades&n=10")
     page.click("#step")
     places = page.browser.script("return ['run', 'step', 'account-head'].map((id) => document.getElementById(id).getBoundingClientRect()).map((box) => box.top >= 0 && box.bottom <= innerHeight)")
     equal([page.text("#statement-head"), places], ["Statement 11 of 25", [True, True, True]])
+    page.browser.size(340, 800)
+    equal(page.browser.script("return [...document.querySelectorAll('.runs button')].map((each) => each.getBoundingClientRect()).filter((box) => box.left < 0 || box.right > innerWidth || box.bottom > innerHeight).length"), 0)

@@ -42,7 +42,7 @@ export function blocksOf(entries, written = []) {
     } else if (entry.kind === "skipped") {
       blocks.triggers.push({ ...entry, saw: [], statements: [] });
     } else if (entry.kind === "violation") {
-      blocks.violations.push(newestFirst(entry, written));
+      placeViolation(blocks.violations, newestFirst(entry, written));
     } else if (entry.kind === "savepoints") {
       blocks.notes.push(entry.standing.length > 0 ? `savepoints that stand: ${entry.standing.join(", ")}` : "no savepoint stands");
     } else {
@@ -50,6 +50,14 @@ export function blocksOf(entries, written = []) {
     }
   }
   return blocks;
+}
+
+// Two rows with one key violate it both: the pair is told once.
+function placeViolation(violations, violation) {
+  const isTold = violation.reason === "key" && violations.some((each) => each.constraint === violation.constraint && each.row === violation.row && each.otherRow === violation.otherRow);
+  if (!isTold) {
+    violations.push(violation);
+  }
 }
 
 // The wave that a change belongs to: a new one after actions. Triggers that ran since then see its rows before they are stored.
