@@ -1,6 +1,6 @@
 #!/usr/bin/env python3
 """Tries the page in Chromium: every script of the tests and examples through its engine, what the page does (browser_page.py and
-browser_scripts.py), how fast it starts and how much it weighs.
+the other files of tests beside it), how fast it starts and how much it weighs.
 
   tests/browser.py --library FOLDER              FOLDER has sqlkeep.html, as `./build --page` leaves it in out/
   tests/browser.py --library FOLDER --only WORD  the tests of the page alone that have this word in their names

@@ -31,10 +31,10 @@ class Handler(http.server.SimpleHTTPRequestHandler):
 
 
 @contextmanager
-def served(page, text):
+def served(page, text, files=FILES):
     """The address of a folder with a page and the files that it needs."""
     with tempfile.TemporaryDirectory() as folder:
-        for name in FILES:
+        for name in files:
             shutil.copyfile(page.file.with_name(name), Path(folder, name))
         Path(folder, "index.html").write_text(text, "utf-8")
         server = http.server.ThreadingHTTPServer(("127.0.0.1", 0), functools.partial(Handler, directory=folder))
@@ -122,3 +122,27 @@ def a_block_is_used_by_keys_and_tells_faults(page):
         page.browser.press("Alt", "Up")
         page.browser.wait(lambda: inside(page, 0, "root.querySelector('.answer[aria-selected=true]').id") == "answer-1", "the statement before")
         equal(inside(page, 0, "[root.querySelector('.answers').getAttribute('role'), root.querySelector('.bar').getAttribute('role'), root.querySelector('.status').getAttribute('role')]"), ["listbox", "toolbar", "status"])
+
+
+@test
+def an_engine_that_is_not_there_is_told(page):
+    with served(page, EXAMPLE.read_text("utf-8").replace(" autorun", ""), FILES[:1]) as address:
+        opened(page, address)
+        for _ in range(2):
+            press(page, 0, "Run")
+            page.browser.wait(lambda: inside(page, 0, "root.querySelector('.status').textContent") == f"The engine can't be loaded: {address}sqlkeep.wasm answers 404.", "the reason")
+        # The browser tells it, too.
+        page.browser.complaints()
+
+
+@test
+def a_slow_block_is_stopped(page):
+    slow = "CREATE TABLE t (a INT);\nINSERT INTO t VALUES (1);\n" + "INSERT INTO t SELECT * FROM t;\n" * 14 + "DELETE FROM t WHERE EXISTS (SELECT * FROM t AS x WHERE x.a &gt; t.a);\n"
+    with served(page, f"<!doctype html><meta charset=utf-8><script type=module src=sqlkeep-element.mjs></script><sql-keep>{slow}</sql-keep>") as address:
+        opened(page, address)
+        press(page, 0, "Run")
+        page.browser.wait(lambda: inside(page, 0, "root.querySelector('.status').textContent").startswith("Running statement 17"), "the slow statement")
+        press(page, 0, "Stop")
+        page.browser.wait(lambda: inside(page, 0, "root.querySelector('.status').textContent") == "Stopped. 16 statements executed.", "the end")
+        press(page, 0, "Step")
+        page.browser.wait(lambda: inside(page, 0, "root.querySelector('.answer[aria-selected=true]')?.id") == "answer-1", "the first statement")

@@ -61,6 +61,9 @@ def a_lesson_goes_with_the_last_line_of_its_script(page):
     equal(page.texts("#tour h2"), ["No two alike"])
     page.type("COMMIT;")
     equal(page.count("#tour > *"), 0)
+    page.upload("empty.sql", b"--# Write a table\n")
+    page.type("CREATE TABLE t (a INT);")
+    equal(page.texts("#tour h2"), ["Write a table"])
 
 
 @test

@@ -17,6 +17,14 @@ import { statementsOf, tokensOf } from "./tokens.mjs";
 const NAME = "sql-keep", RUNNING_MS = 200, BORDERS = 2;
 const LIMITS = { depth: 16, changes: 65536 };
 
+async function compiled(address) {
+  const answer = await fetch(address);
+  if (!answer.ok) {
+    throw new Error(`The engine can't be loaded: ${address} answers ${answer.status}.`);
+  }
+  return WebAssembly.compile(await answer.arrayBuffer());
+}
+
 class Block extends HTMLElement {
   /** @type {{worker: string, style: string, engine: URL}} */
   static parts;
@@ -110,7 +118,12 @@ class Block extends HTMLElement {
     if (this.#run !== null) {
       return;
     }
-    Block.module ??= fetch(Block.parts.engine).then((answer) => (answer.ok ? answer.arrayBuffer() : Promise.reject(new Error(`${Block.parts.engine} answers ${answer.status}`)))).then((bytes) => WebAssembly.compile(bytes));
+    Block.module ??= compiled(Block.parts.engine);
+    // What couldn't be loaded is asked for again by the next run.
+    Block.module.catch(() => {
+      Block.module = null;
+      this.#run = null;
+    });
     this.#run = new Run(new Client(Block.parts.worker, Block.module), () => LIMITS);
     this.#run.onBusy = (isBusy) => {
       this.stopButton.disabled = !isBusy;
@@ -142,8 +155,10 @@ class Block extends HTMLElement {
       this.#say(`${count(this.#items.filter(({ kind }) => kind !== "fault").length, "statement")}, ${this.#items.filter(({ kind }) => kind === "refused").length} refused.`);
       await this.choose(pick(this.#items));
     } catch (error) {
-      this.#show();
-      this.#say(error.message === "stopped" ? `Stopped. ${count(this.#items.length, "statement")} executed.` : `${error.message}`);
+      if (this.#run !== null) {
+        this.#show();
+      }
+      this.#say(error.message === "stopped" ? `Stopped. ${count(this.#items.length, "statement")} executed.` : error.message);
     } finally {
       clearInterval(running);
     }
@@ -177,7 +192,10 @@ class Block extends HTMLElement {
       this.said.replaceChildren(...faultOf(this.#run.fault, number));
       return;
     }
-    const detail = await this.#run.view(this.before.statements + number);
+    const detail = await this.#run.view(this.before.statements + number).catch((error) => this.#say(error.message));
+    if (!detail || number !== this.#chosen) {
+      return;
+    }
     detail.schema = new Schema(detail.catalogue);
     detail.line = renumbered(detail.line, number);
     this.said.replaceChildren(...saidOf(detail, items[number - 1].text).slice(1));

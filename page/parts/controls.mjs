@@ -267,9 +267,13 @@ export class Controls {
 
   // A lesson goes where nothing of its script is left, unless it is an exercise.
   #keepLesson() {
-    const lines = new Set(this.#notes.length > 0 && !this.#isLessonEdited ? this.editor.text.split("\n") : this.#lessonLines);
-    if (!this.#lessonLines.some((line) => lines.has(line)) && checksOf(this.#notes).length === 0) {
+    if (this.#lessonLines.length === 0 || this.#isLessonEdited || checksOf(this.#notes).length > 0) {
+      return;
+    }
+    const lines = new Set(this.editor.text.split("\n"));
+    if (!this.#lessonLines.some((line) => lines.has(line))) {
       this.#notes = [];
+      this.#lessonLines = [];
       this.#showLesson();
     }
   }
@@ -279,7 +283,9 @@ export class Controls {
     this.examples.keep(this.text);
     this.kept.put(this.text);
     // The address holds another script now.
-    history.replaceState({ name: this.examples.chosen }, "", location.pathname + location.search);
+    if (location.hash || history.state?.name !== this.examples.chosen) {
+      history.replaceState({ name: this.examples.chosen }, "", location.pathname + location.search);
+    }
     this.#again("The script was changed: run it again.");
   }
 
