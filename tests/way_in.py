@@ -1,5 +1,5 @@
 #!/usr/bin/env python3
-"""Tries the way in: files of SQLite that become scripts of this language.
+"""Tries the way in: files of SQLite and databases of PostgreSQL that become scripts of this language.
 
     way_in.py [--library FOLDER] [--only WORD] [--tell] [--seed N] [--count N]
 
@@ -7,6 +7,7 @@
 - Schemas that Debian's packages ship become scripts that the engine takes whole; nothing of them is lost without a note; and --count random
   changes are accepted here exactly where SQLite accepts them, except where a note says what was left out. A package that isn't
   installed is fetched by `apt-get download` into a temporary folder, and skipped where that fails.
+- The same is tried with small schemas of PostgreSQL and that of pgbench, over a server of its own.
 The last line is `N passed, N failed`, with `, N skipped`."""
 import argparse
 import glob
@@ -18,6 +19,8 @@ import subprocess
 import sys
 import tempfile
 from pathlib import Path
+
+from postgresql.server import Server, binaries
 
 ROOT = Path(__file__).resolve().parent.parent
 
@@ -242,6 +245,121 @@ COMMIT;
 -- left out: foreign key (x) of c to p (k): AddRefused
 """, 1),
 ]
+POSTGRESQL = [
+    ("types and defaults", """CREATE TYPE mood AS ENUM ('a');
+        CREATE TABLE t (a smallint DEFAULT -3, b bigint, c varchar(9) DEFAULT 'it''s', d text, e boolean DEFAULT true, f numeric(5,2) CHECK (f > 0), g date DEFAULT now(), h mood, i serial);""", """-- changed: a: smallint is INT, of 64 bits
+-- changed: d: text is VARCHAR(4096)
+-- changed: e: boolean is INT, 0 or 1
+-- changed: f: numeric(5,2) is VARCHAR(4096), with texts only
+-- changed: g: date is VARCHAR(4096), with texts only
+-- left out: DEFAULT now() of g: it is no literal
+-- changed: h: public.mood is VARCHAR(4096), with texts only
+-- changed: i: integer is INT, of 64 bits
+-- changed: i: PostgreSQL numbers a row without one, and here it has none
+-- left out: CHECK t_f_check (( f > ( 0 ) :: numeric )): f is a text here
+CREATE TABLE t (
+    a INT DEFAULT -3,
+    b INT,
+    c VARCHAR(9) DEFAULT 'it''s',
+    d VARCHAR(4096),
+    e INT DEFAULT 1,
+    f VARCHAR(4096),
+    g VARCHAR(4096),
+    h VARCHAR(4096),
+    i INT NOT NULL,
+    CHECK (e = 0 OR e = 1)
+);
+
+-- not needed: sequence t_i_seq
+-- left out: type mood
+""", 1),
+    ("keys and foreign keys of PostgreSQL", """CREATE TABLE p (k bigint CONSTRAINT pk PRIMARY KEY, l bigint CONSTRAINT one UNIQUE DEFERRABLE INITIALLY DEFERRED);
+        CREATE TABLE c (x bigint CONSTRAINT f REFERENCES p MATCH FULL ON DELETE CASCADE ON UPDATE SET NULL DEFERRABLE, CONSTRAINT c_c1 UNIQUE NULLS NOT DISTINCT (x));
+        CREATE INDEX i ON c (x); CREATE UNIQUE INDEX j ON p (k, l); CREATE UNIQUE INDEX e ON c ((x + 1)); CREATE UNIQUE INDEX w ON c (x) WHERE x > 0;""", """-- changed: unique index j is a UNIQUE
+CREATE TABLE p (
+    k INT NOT NULL,
+    l INT,
+    CONSTRAINT pk PRIMARY KEY (k),
+    CONSTRAINT one UNIQUE (l) INITIALLY DEFERRED,
+    CONSTRAINT j UNIQUE (k, l)
+);
+
+-- not needed: index i
+-- left out: unique index e: it has an expression
+-- left out: unique index w: it has a WHERE
+-- changed: constraint c_c1 is called c_c1_
+CREATE TABLE c (
+    x INT,
+    CONSTRAINT c_c1_ UNIQUE NULLS NOT DISTINCT (x)
+);
+
+ALTER TABLE c ADD CONSTRAINT f FOREIGN KEY (x) REFERENCES p (k) MATCH FULL ON DELETE CASCADE ON UPDATE SET NULL DEFERRABLE;
+""", 1),
+    ("conditions of PostgreSQL", """CREATE TABLE t (a bigint, b varchar(9), d boolean, CONSTRAINT one CHECK (a IN (1, -2)), CONSTRAINT two CHECK (b NOT IN ('x', 'y')), CONSTRAINT three CHECK (a BETWEEN 1 AND 9),
+        CONSTRAINT four CHECK (NOT d OR a IS NOT NULL), CONSTRAINT five CHECK (length(b) > 1), CONSTRAINT six CHECK (a::text < b::text), CONSTRAINT seven CHECK (b <> ''));""", """-- changed: d: boolean is INT, 0 or 1
+-- left out: CHECK five (( length ( ( b ) :: text ) > 1 )): length() can't be said here
+-- left out: CHECK six (( ( a ) :: text < ( b ) :: text )): ::text can't be said here
+CREATE TABLE t (
+    a INT,
+    b VARCHAR(9),
+    d INT,
+    CHECK (d = 0 OR d = 1),
+    CONSTRAINT one CHECK (a = 1 OR a = (-2)),
+    CONSTRAINT two CHECK (b <> 'x' AND b <> 'y'),
+    CONSTRAINT three CHECK ((a >= 1) AND (a <= 9)),
+    CONSTRAINT four CHECK ((NOT d <> 0) OR (a IS NOT NULL)),
+    CONSTRAINT seven CHECK (b <> '')
+);
+""", 1),
+    ("names of PostgreSQL", """CREATE TABLE t (k bigint UNIQUE, "true" boolean CONSTRAINT one CHECK ("true" <> true)); CREATE SCHEMA s; CREATE TABLE s.t (k bigint); CREATE TABLE "T" (k bigint UNIQUE); CREATE TABLE u (a bigint, "A" bigint);
+        CREATE TABLE "or der" (k bigint CONSTRAINT f REFERENCES "T" (k)); CREATE TABLE e (k varchar(9) CONSTRAINT two CHECK (k <> E'\\\\'));""", """-- changed: true: boolean is INT, 0 or 1
+CREATE TABLE t (
+    k INT,
+    true INT,
+    CONSTRAINT t_k_key UNIQUE (k),
+    CHECK (true = 0 OR true = 1),
+    CONSTRAINT one CHECK (true <> 1)
+);
+
+-- changed: s.t is called s_t
+CREATE TABLE s_t (
+    k INT
+);
+
+-- left out: foreign key f to T, which is left out
+-- changed: or der is called or_der
+CREATE TABLE or_der (
+    k INT
+);
+
+CREATE TABLE e (
+    k VARCHAR(9),
+    CONSTRAINT two CHECK (k <> '\\')
+);
+
+-- left out: table T: a name is there in small and in capital letters
+-- left out: table u: a name is there in small and in capital letters
+""", 1),
+    ("what there isn't here of PostgreSQL", """CREATE TABLE t (a bigint, b bigint GENERATED ALWAYS AS (a + 1) STORED); CREATE VIEW v AS SELECT a FROM t; CREATE SEQUENCE s; CREATE FUNCTION f() RETURNS trigger LANGUAGE plpgsql AS 'BEGIN RETURN NEW; END';
+        CREATE TRIGGER g BEFORE INSERT ON t FOR EACH ROW EXECUTE FUNCTION f(); CREATE TABLE r (LIKE t) PARTITION BY RANGE (a); CREATE TABLE r1 PARTITION OF r DEFAULT;""", """-- left out: the expression of the generated column b, which is a plain one
+CREATE TABLE t (
+    a INT,
+    b INT
+);
+
+-- left out: PARTITION BY of r
+CREATE TABLE r (
+    a INT,
+    b INT
+);
+
+-- left out: view v
+-- left out: sequence s
+-- left out: partition r1
+-- left out: trigger g of t
+-- left out: function f
+""", 1),
+]
 # The causes that the scripts above name; the engine tells more.
 CAUSES = ("no statement", "SchemaFault", "WrongShape", "Limit", "TextTooLong", "AddRefused")
 
@@ -269,13 +387,19 @@ def fits(line, wanted):
 def cases(package, folder):
     """What is wrong with each small schema."""
     for at, (name, script, with_rows, wanted, status) in enumerate(CASES):
-        written, said, answered = command(package, "from-sqlite", made(folder, f"case{at}", script), *(["--data"] if with_rows else []))
-        lines, expected = written.split("\n"), wanted.split("\n")
-        wrong = [f"the script is\n{written}"] if len(lines) != len(expected) or not all(map(fits, lines, expected)) else []
-        counts = [sum(line.startswith(f"-- {kind}: ") for line in expected) for kind in ("changed", "not needed", "left out")]
-        summary = "sqlkeep: {} changed, {} not needed, {} left out".format(*counts)
-        wrong += [f"standard error is\n{said}"] if said.splitlines()[-1:] != [summary] or len(said.splitlines()) != counts[2] + 1 else []
-        yield name, wrong + ([f"the status is {answered}"] if answered != status else [])
+        answer = command(package, "from-sqlite", made(folder, f"case{at}", script), *(["--data"] if with_rows else []))
+        yield name, differs(answer, wanted, status)
+
+
+def differs(answer, wanted, status):
+    """What is wrong with an answer of the command."""
+    written, said, answered = answer
+    lines, expected = written.split("\n"), wanted.split("\n")
+    wrong = [f"the script is\n{written}"] if len(lines) != len(expected) or not all(map(fits, lines, expected)) else []
+    counts = [sum(line.startswith(f"-- {kind}: ") for line in expected) for kind in ("changed", "not needed", "left out")]
+    summary = "sqlkeep: {} changed, {} not needed, {} left out".format(*counts)
+    wrong += [f"standard error is\n{said}"] if said.splitlines()[-1:] != [summary] or len(said.splitlines()) != counts[2] + 1 else []
+    return wrong + ([f"the status is {answered}"] if answered != status else [])
 
 
 def unreadable(package, folder):
@@ -284,6 +408,53 @@ def unreadable(package, folder):
     for name, file in (("no file", f"{folder}/none"), ("no file of SQLite", f"{folder}/text"), ("a folder", str(folder))):
         written, said, status = command(package, "from-sqlite", file)
         yield name, [] if (written, status) == ("", 2) and said.startswith(f"sqlkeep: cannot read {file}: ") and said.count("\n") == 1 else [written + said]
+
+
+# ---- PostgreSQL
+
+def of_postgresql(package, folder, words):
+    """What is wrong with each small schema of PostgreSQL, and with pgbench's; None if there is no server."""
+    if not binaries() or not shutil.which("psql"):
+        yield "postgresql", None
+        return
+    room = Path(folder, "server")
+    room.mkdir()
+    os.chmod(folder, 0o755)
+    with Server(str(room)) as server:
+        for name, script, wanted, status in POSTGRESQL:
+            asked(server, folder, "DROP SCHEMA public CASCADE; DROP SCHEMA IF EXISTS s CASCADE; CREATE SCHEMA public;" + script)
+            yield name, differs(command(package, "from-postgresql", server.dsn), wanted, status)
+        yield "no server", [] if command(package, "from-postgresql", "host=/none")[2] == 2 else ["it was read"]
+        asked(server, folder, "DROP SCHEMA public CASCADE; DROP SCHEMA IF EXISTS s CASCADE; CREATE SCHEMA public;")
+        subprocess.run([os.path.join(binaries(), "pgbench"), "-h", str(room), "-U", "tester", "-i", "-q", "-I", "dtpf", "postgres"], capture_output=True, check=True)
+        script, _, status = command(package, "from-postgresql", server.dsn)
+        yield "pgbench", ([f"the status is {status}"] if status != int("-- left out: " in script) else []) + alike_there(server, folder, script, words)
+
+
+def asked(server, folder, script):
+    """What psql says to a script."""
+    file = Path(folder, "asked.sql")
+    file.write_text(script)
+    return server.psql(file, folder, "-c client_min_messages=warning", "UTF8").decode()
+
+
+def alike_there(server, folder, script, words):
+    """The random changes that aren't accepted in both or in neither, over the columns whose values are the same in both."""
+    from sqlkeep import Session
+    from sqlkeep.values import write_value
+
+    session, choose, changes = Session(), random.Random(words.seed), []
+    session.script(script)
+    for _ in range(words.count):
+        table = choose.choice(list(session.catalogue.tables.values()))
+        some = {column.name: write_value(choose.choice(pool(column, True))) for column in table.columns if column.length != 4096}
+        one, where = choose.choice(list(some)), choose.choice(list(some))
+        changes.append(choose.choice([f"INSERT INTO {table.name} ({', '.join(some)}) VALUES ({', '.join(some.values())});"] * 3 + [f"UPDATE {table.name} SET {one} = {some[one]} WHERE {where} = {some[where]};", f"DELETE FROM {table.name} WHERE {where} = {some[where]};"]))
+    here = [session.execute(change).error is None and session.commit().error is None for change in changes if session.rollback() is None]
+    there = [line == "false" for line in asked(server, folder, "".join(f"{change}\n\\echo :ERROR\n" for change in changes)).splitlines() if line in ("true", "false")]
+    if words.tell:
+        print(f"pgbench: {sum(here)} of {len(here)} changes are accepted")
+    return [f"{change} here {one}, there {other}" for change, one, other in zip(changes, here, there) if one != other] + ([] if len(here) == len(there) and 0 < sum(here) < len(here) else [f"{len(there)} answers"])
 
 
 # ---- schemas of packages
@@ -424,7 +595,7 @@ def shipped_file(package, folder, file, words):
 def main():
     parser = argparse.ArgumentParser()
     parser.add_argument("--library", default=str(ROOT / "out"))
-    parser.add_argument("--only", choices=("cases", "shipped"))
+    parser.add_argument("--only", choices=("cases", "shipped", "postgresql"))
     parser.add_argument("--tell", action="store_true")
     parser.add_argument("--seed", type=int, default=1)
     parser.add_argument("--count", type=int, default=200)
@@ -438,9 +609,11 @@ def main():
         package = Path(folder, "package")
         shutil.unpack_archive(wheels[0], package, "zip")
         sys.path.insert(0, str(package))
-        if words.only != "shipped":
+        if words.only in (None, "postgresql"):
+            results += of_postgresql(package, folder, words)
+        if words.only in (None, "cases"):
             results += [*cases(package, folder), *unreadable(package, folder)]
-        if words.only != "cases":
+        if words.only in (None, "shipped"):
             results += shipped(package, folder, words)
     for name, wrong in results:
         if wrong is None:

@@ -23,11 +23,11 @@ def main(words: list[str] | None = None) -> int:
         from .postgresql import commands  # pylint: disable=import-outside-toplevel
 
         return commands.main(words)
-    if words and words[0] == "from-sqlite":
+    if words and words[0] in ("from-sqlite", "from-postgresql"):
         from .incoming import commands as incoming  # pylint: disable=import-outside-toplevel
 
         return incoming.main(words)
-    parser = argparse.ArgumentParser(prog="python -m sqlkeep", description="A shell for an in-memory SQL engine for integrity constraints.", epilog="Type .help in the shell. `python -m sqlkeep to-postgresql --help` and `compare --help` tell of the way to PostgreSQL, `from-sqlite --help` of the way from SQLite.")
+    parser = argparse.ArgumentParser(prog="python -m sqlkeep", description="A shell for an in-memory SQL engine for integrity constraints.", epilog="Type .help in the shell. `python -m sqlkeep to-postgresql --help` and `compare --help` tell of the way to PostgreSQL, `from-sqlite --help` and `from-postgresql --help` of the way in.")
     parser.add_argument("file", nargs="?", help="statements that are executed first")
     parser.add_argument("--depth", type=int, default=16, help="how deep triggers may nest, 1 to 64; 16 if it isn't given")
     parser.add_argument("--changes", type=int, default=65_536, help="how many row changes a statement may make, 1 to 65536")

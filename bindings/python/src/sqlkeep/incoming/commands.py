@@ -1,4 +1,4 @@
-"""The command `from-sqlite` of `python -m sqlkeep`."""
+"""The commands `from-sqlite` and `from-postgresql` of `python -m sqlkeep`."""
 from __future__ import annotations
 
 import argparse
@@ -17,7 +17,7 @@ if TYPE_CHECKING:
 
 __all__ = ["COMMANDS", "main"]
 
-COMMANDS = ("from-sqlite",)
+COMMANDS = ("from-sqlite", "from-postgresql")
 
 
 def parser() -> argparse.ArgumentParser:
@@ -26,6 +26,8 @@ def parser() -> argparse.ArgumentParser:
     sqlite = commands.add_parser("from-sqlite", help="reads a file of SQLite")
     sqlite.add_argument("file", help="the file, which is only read")
     sqlite.add_argument("--data", action="store_true", help="brings the rows along")
+    postgresql = commands.add_parser("from-postgresql", help="reads a database of PostgreSQL through psql")
+    postgresql.add_argument("dsn", help="the database, as psql takes it: 'host=/tmp dbname=test'")
     return made
 
 
@@ -52,17 +54,32 @@ def from_sqlite(file: str, with_rows: bool) -> Script:
         connection.close()
 
 
-def main(words: Sequence[str]) -> int:
-    """The status is 0 if everything came along, 1 if something was left out, and 2 if the file can't be read."""
-    given = parser().parse_args(words)
+def script_of(given: argparse.Namespace) -> Script:
+    """The script that a command asks for."""
+    if given.command == "from-postgresql":
+        from . import postgresql  # pylint: disable=import-outside-toplevel
+
+        try:
+            return Script(postgresql.schema_of(given.dsn))
+        except postgresql.Unreachable as error:
+            raise OSError(f"the database: {error}") from None
     try:
         import sqlite3  # pylint: disable=import-outside-toplevel
     except ImportError:
         raise SystemExit("sqlkeep: from-sqlite needs Python's module sqlite3") from None
     try:
-        script = from_sqlite(given.file, given.data)
+        return from_sqlite(given.file, given.data)
     except (OSError, ValueError, sqlite3.Error) as error:
-        print(f"sqlkeep: cannot read {visible(given.file)}: {visible(str(error))}", file=sys.stderr)
+        raise OSError(f"{given.file}: {error}") from None
+
+
+def main(words: Sequence[str]) -> int:
+    """The status is 0 if everything came along, 1 if something was left out, and 2 if nothing can be read."""
+    given = parser().parse_args(words)
+    try:
+        script = script_of(given)
+    except OSError as error:
+        print(f"sqlkeep: cannot read {visible(str(error))}", file=sys.stderr)
         return 2
     try:
         sys.stdout.buffer.write(script.text.encode())

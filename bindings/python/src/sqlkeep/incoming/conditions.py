@@ -1,9 +1,10 @@
-"""The condition of a CHECK, read in SQLite's language and written in this one.
+"""The condition of a CHECK, read in SQLite's or PostgreSQL's language and written in this one.
 
 Each rule reads a part and gives what is written for it. What has no equivalent raises CannotSay with the word.
 """
 from __future__ import annotations
 
+import re
 from typing import Callable, NamedTuple
 
 from ..values import write_value
@@ -16,10 +17,11 @@ DEEPEST = 64
 
 
 class Name(NamedTuple):
-    """What a column is called here, and whether its values compare here as they do there."""
+    """What a column is called here, whether its values compare here as they do there, and whether they are texts."""
 
     name: str
     comparable: bool
+    is_text: bool
 
 
 class Piece(NamedTuple):
@@ -28,6 +30,7 @@ class Piece(NamedTuple):
     text: str
     is_condition: bool = False
     about: str = ""
+    is_text: bool = False
 
 
 def condition(piece: Piece) -> str:
@@ -95,7 +98,9 @@ class Reader:
         left = self.comparison()
         while True:
             sign = self.take("=", "==", "<>", "!=")
-            if sign:
+            if sign and self.take("ANY", "ALL"):
+                left = self.array(left, sign)
+            elif sign:
                 left = Piece(f"({operand(left)} {'=' if sign in ('=', '==') else '<>'} {operand(self.comparison())})", True)
             elif self.take("ISNULL"):
                 left = asked_for_null(left, "")
@@ -159,7 +164,54 @@ class Reader:
         if sign:
             # SQLite's + before a text does nothing; here both signs stand before numbers only, which the engine tests.
             return Piece(f"({sign}{operand(self.factor())})")
-        return self.primary()
+        found = self.primary()
+        while self.take("::"):
+            found = self.cast(found)
+        return found
+
+    def cast(self, piece: Piece) -> Piece:
+        """A cast of PostgreSQL that changes nothing, or that of a text of digits to a number."""
+        words = []
+        while self._at < len(self._words) and self._words[self._at].kind == "word" and not self.says("AND", "OR", "IS", "IN", "NOT"):
+            words.append(str(self.take(self._words[self._at].text.upper())))
+        name = " ".join(words)
+        is_array = self.take("[") is not None
+        if is_array:
+            self.expect("]")
+        if name in ("TEXT", "CHARACTER VARYING") and piece.is_text:
+            return piece
+        digits = re.fullmatch("'(-?[0-9]{1,18})'", piece.text)
+        if name in ("SMALLINT", "INTEGER", "BIGINT") and (digits or not piece.is_text) and not piece.is_condition:
+            return Piece(f"({digits[1]})") if digits else piece
+        raise CannotSay(f"::{name.lower()} can't be said here")
+
+    def array(self, left: Piece, sign: str) -> Piece:
+        """What stands behind = ANY and <> ALL: the values of an ARRAY."""
+        word = self._words[self._at - 1].text.upper()
+        if (sign, word) not in (("=", "ANY"), ("<>", "ALL")):
+            raise CannotSay(f"{sign} {word} can't be said here")
+        self.expect("(")
+        is_cast = self.take("(") is not None
+        self.expect("ARRAY")
+        self.expect("[")
+        parts = [self.sum()]
+        while self.take(","):
+            parts.append(self.sum())
+        self.expect("]")
+        if is_cast:
+            self.expect(")")
+            self.expect("::")
+            parts = self.all_cast(parts)
+        self.expect(")")
+        return Piece("(" + (" OR " if sign == "=" else " AND ").join(f"{operand(left)} {sign} {operand(part)}" for part in parts) + ")", True)
+
+    def all_cast(self, parts: list[Piece]) -> list[Piece]:
+        """The values of an array with the cast behind it."""
+        start, found = self._at, []
+        for part in parts:
+            self._at = start
+            found.append(self.cast(part))
+        return found
 
     def primary(self) -> Piece:
         if self._at == len(self._words):
@@ -172,7 +224,7 @@ class Reader:
             return Piece(str(int(word.text)))
         if word.kind == "text":
             self._at += 1
-            return Piece(write_value(word.text))
+            return Piece(write_value(word.text), is_text=True)
         return self.named(word)
 
     def group(self) -> Piece:
@@ -195,9 +247,9 @@ class Reader:
         if self.take("."):
             self._at += 1
             word = self._words[self._at - 1] if self._at <= len(self._words) else word
-        found = self._name_of(word.text)
+        found = None if word.says("NULL") else self._name_of(word.text)
         if found is not None:
-            return Piece(found.name, about="" if found.comparable else f"{found.name} is a text here")
+            return Piece(found.name, about="" if found.comparable else f"{found.name} is a text here", is_text=found.is_text)
         if not word.says("NULL", "TRUE", "FALSE"):
             raise CannotSay(f"{word} can't be said here")
         return Piece({"NULL": "NULL", "TRUE": "1", "FALSE": "0"}[word.text.upper()])

@@ -43,6 +43,8 @@ class Key:
     columns: list[str]
     is_primary: bool = False
     name: str | None = None
+    nulls_not_distinct: bool = False
+    time: str = ""
 
 
 @dataclass
@@ -64,6 +66,7 @@ class ForeignKey:
     on_update: str
     time: str = ""
     name: str | None = None
+    match: str = ""
 
 
 @dataclass

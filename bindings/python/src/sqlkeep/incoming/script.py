@@ -144,7 +144,9 @@ class Script:
         return f"{self._names[table.name.lower()].columns[column.name.lower()]} {kind}{default}{not_null}"
 
     def key(self, table: Table, key: Key) -> str:
-        return f"{self.named(key.name, table)}{kind_of(key)} {self._names[table.name.lower()].list_of(key.columns)}"
+        nulls = " NULLS NOT DISTINCT" if key.nulls_not_distinct else ""
+        time = f" {key.time}" if key.time else ""
+        return f"{self.named(key.name, table)}{kind_of(key)}{nulls} {self._names[table.name.lower()].list_of(key.columns)}{time}"
 
     def checks(self, table: Table) -> list[str]:
         found = []
@@ -163,7 +165,7 @@ class Script:
 
         def name_of(word: str) -> Name | None:
             column = table.column(word)
-            return None if column is None else Name(columns[column.name.lower()], column.comparable)
+            return None if column is None else Name(columns[column.name.lower()], column.comparable, column.length is not None)
 
         text = written(check.condition, name_of)
         return text[1:-1] if text.startswith("(") and closes_at_end(text) else text
@@ -202,7 +204,7 @@ class Script:
     def reference(self, key: ForeignKey) -> str:
         to = self._names[key.table.lower()]
         actions = [f"ON {event} {action}" for event, action in (("DELETE", key.on_delete), ("UPDATE", key.on_update)) if action != "NO ACTION"]
-        return " ".join([f"REFERENCES {to.name} {to.list_of(key.referenced)}", *actions, *([key.time] if key.time else [])])
+        return " ".join([f"REFERENCES {to.name} {to.list_of(key.referenced)}", *([key.match] if key.match else []), *actions, *([key.time] if key.time else [])])
 
 
 def shortened(text: str) -> str:

@@ -1,4 +1,4 @@
-"""The words of SQLite's SQL, as far as a CREATE TABLE needs them."""
+"""The words of SQL as SQLite and PostgreSQL write it, as far as a CREATE TABLE and a condition need them."""
 from __future__ import annotations
 
 import re
@@ -10,8 +10,9 @@ BLANK = re.compile(r"(?:[ \t\r\n\f]|--[^\n]*|/\*.*?(?:\*/|\Z))+", re.DOTALL)
 PIECE = re.compile(
     r"""(?P<blob>[xX]'[^']*')|(?P<text>'(?:[^']|'')*')|(?P<quoted>"(?:[^"]|"")*"|`(?:[^`]|``)*`|\[[^\]]*\])"""
     r"""|(?P<number>0[xX][0-9a-fA-F]+|(?:[0-9]+\.?[0-9]*|\.[0-9]+)(?:[eE][+-]?[0-9]+)?)|(?P<word>[A-Za-z_\u0080-\U0010ffff][\w$]*)"""
-    r"""|(?P<sign>\|\||<<|>>|<=|>=|<>|!=|==|->>|->|[-+*/%&|~<>=(),.;?:@$])"""
+    r"""|(?P<sign>::|\|\||<<|>>|<=|>=|<>|!=|==|->>|->|[-+*/%&|~<>=(),.;?:@$])"""
 )
+BRACKET = re.compile(r"(?P<sign>[\[\]])")
 
 
 class CannotSay(Exception):
@@ -38,8 +39,8 @@ def unquoted(piece: str) -> str:
     return piece[1:-1] if quote == "]" else piece[1:-1].replace(2 * quote, quote)
 
 
-def words_of(text: str) -> list[Word]:
-    """The words of a text. CannotSay where none begins."""
+def words_of(text: str, has_brackets: bool = True) -> list[Word]:
+    """The words of a text. Names may stand between brackets in SQLite; in PostgreSQL brackets are signs. CannotSay where no word begins."""
     found: list[Word] = []
     at = 0
     while True:
@@ -47,7 +48,7 @@ def words_of(text: str) -> list[Word]:
         at = blank.end() if blank is not None else at
         if at == len(text):
             return found
-        piece = PIECE.match(text, at)
+        piece = PIECE.match(text, at) if has_brackets or text[at] not in "[]" else BRACKET.match(text, at)
         if piece is None or piece.lastgroup is None:
             raise CannotSay(f"no word begins at {text[at:at + 20]!r}")
         found.append(Word(piece.lastgroup, unquoted(piece[0]) if piece.lastgroup in ("text", "quoted") else piece[0]))
