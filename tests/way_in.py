@@ -32,6 +32,7 @@ PACKAGES = {
     "kamailio-sqlite-modules": tuple(f"usr/share/kamailio/db_sqlite/{name}-create.sql" for name in ("carrierroute", "drouting", "lcr", "presence", "registrar", "usrloc")),
 }
 
+PIECES = ("'", "''", '"', "--", "\n", "\r", ";", "\\", "x", "?", "(", ")", "; DROP TRIGGER t;", "\u2028", "\u00e9", "\x1b[31m", "/*", "*/", "]", "`")
 # A name, what SQLite runs, whether the rows come along, the script, and the status.
 CASES = [
     ("nothing", "", False, "", 0),
@@ -410,6 +411,31 @@ def unreadable(package, folder):
         yield name, [] if (written, status) == ("", 2) and said.startswith(f"sqlkeep: cannot read {file}: ") and said.count("\n") == 1 else [written + said]
 
 
+def hostile(package, folder, words):
+    """What is wrong where names, defaults, conditions and rows are made of pieces that end a text, a name or a comment elsewhere."""
+    from sqlkeep import Session
+
+    choose, texts = random.Random(words.seed), []
+    connection = sqlite3.connect(Path(folder, "hostile"))
+    for number in range(50):
+        table, column, check, kind = ('"' + "".join(choose.choices(PIECES, k=4)).replace('"', '""') + f'{number}-{at}"' for at in range(4))
+        texts.append("".join(choose.choices(PIECES, k=6)))
+        quoted = "'" + texts[-1].replace("'", "''")
+        connection.execute(f"CREATE TABLE {table} ({column} TEXT DEFAULT {quoted}' CONSTRAINT {check} CHECK ({column} <> {quoted}!'), {kind} {kind})")
+        connection.execute(f"INSERT INTO {table} ({column}) VALUES (?)", (texts[-1],))
+    connection.commit()
+    connection.close()
+    script, said, status = command(package, "from-sqlite", str(Path(folder, "hostile")), "--data")
+    session = Session()
+    for part in session.parts(script):
+        session.execute(part).check()
+    tables = [table.columns[0] for table in session.catalogue.tables.values()]
+    rows = [session.execute(f"SELECT {table.columns[0].name} FROM {name};").rows for name, table in session.catalogue.tables.items()]
+    refused = [session.execute(f"INSERT INTO {name} VALUES (?, NULL);", (text + "!",)).error is not None for name, text in zip(session.catalogue.tables, texts)]
+    right = status == 0 and said.count("\n") == 1 and all(refused) and rows == [[(text,)] for text in texts] and [column.default for column in tables] == texts
+    yield "hostile names and texts", [] if right else [said, script]
+
+
 # ---- PostgreSQL
 
 def of_postgresql(package, folder, words):
@@ -612,7 +638,7 @@ def main():
         if words.only in (None, "postgresql"):
             results += of_postgresql(package, folder, words)
         if words.only in (None, "cases"):
-            results += [*cases(package, folder), *unreadable(package, folder)]
+            results += [*cases(package, folder), *unreadable(package, folder), *hostile(package, folder, words)]
         if words.only in (None, "shipped"):
             results += shipped(package, folder, words)
     for name, wrong in results:
