@@ -623,7 +623,7 @@ def cases():
     yield Case('an account of 60,000 rows with the key of another, in which nulls are equal', lambda: explained_nulls(60_000), words=['--explain'])
     yield Case('60,000 rows of which 15 are left, looked through 24,000 times', lambda: few_left(60_000))
     yield Case('30,000 rows that violate one constraint, the later half mended', lambda: mended(30_000))
-    yield Case('16,000 times SET CONSTRAINTS beside 65,536 pending rows', lambda: refused_modes(16, 16_000))
+    yield Case('10,000 times SET CONSTRAINTS beside 65,536 pending rows', lambda: refused_modes(16, 10_000))
     yield Case('4,096 constraints', many_constraints)
     yield Case('4,032 foreign keys to one table', many_foreign_keys)
     yield Case('1,000 savepoints over 4,096 constraints', saved_with_constraints)
