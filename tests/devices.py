@@ -142,18 +142,25 @@ def how_far(place):
     yield '/dev/null as FILE', compared((b'', 0, b''), run([place.program, '/dev/null']))
 
 
+def unread(program, name, reason, **options):
+    """Why a run over a FILE that can't be read isn't as it should be."""
+    return compared((b'', 2, f'sqlkeep: cannot read {name}: {reason}\n'.encode()), run([program, name], **options))
+
+
 def files(place):
     """A FILE that can't be opened or read."""
-    yield 'a directory as FILE', compared((b'', 2, READ), run([place.program, place.folder]))
-    yield 'a directory as standard input', directory_as_input(place)
-    yield 'no such file', compared((b'', 2, READ), run([place.program, os.path.join(place.folder, 'absent.sql')]))
-    yield 'a file below a file', compared((b'', 2, READ), run([place.program, os.path.join(place.file('plain', b''), 'below.sql')]))
-    yield 'an empty word as FILE', compared((b'', 2, READ), run([place.program, '']))
-    yield 'a name of 300 letters', compared((b'', 2, READ), run([place.program, 'n' * 300]))
-    yield 'a name of 5,000 letters', compared((b'', 2, READ), run([place.program, 'n/' * 2500]))
     loop = os.path.join(place.folder, 'loop')
     os.symlink(loop, loop)
-    yield 'a link to itself', compared((b'', 2, READ), run([place.program, loop]))
+    yield 'a directory as standard input', directory_as_input(place)
+    for what, name, reason in (
+            ('a directory as FILE', place.folder, 'it is a directory'),
+            ('no such file', os.path.join(place.folder, 'absent.sql'), 'no such file'),
+            ('a file below a file', os.path.join(place.file('plain', b''), 'below.sql'), 'a part of its path is no directory'),
+            ('an empty word as FILE', '', 'no such file'),
+            ('a name of 300 letters', 'n' * 300, 'the system refuses it'),
+            ('a name of 5,000 letters', 'n/' * 2500, 'the system refuses it'),
+            ('a link to itself', loop, 'the system refuses it')):
+        yield what, unread(place.program, name, reason)
     yield from rights(place)
 
 
@@ -190,8 +197,8 @@ def rights(place):
         os.chmod(locked, 0o755)
         return
     yield 'a file with rights to read', compared((SHORT_TRANSCRIPT, 1, b''), run([own, shown], **user))
-    yield 'a file without rights', compared((b'', 2, READ), run([own, hidden], **user))
-    yield 'a folder without rights', compared((b'', 2, READ), run([own, os.path.join(locked, 'shown.sql')], **user))
+    yield 'a file without rights', unread(own, hidden, 'permission denied', **user)
+    yield 'a folder without rights', unread(own, os.path.join(locked, 'shown.sql'), 'permission denied', **user)
     os.chmod(locked, 0o755)
 
 
