@@ -365,6 +365,16 @@ fn switch(rt: &impl Abort, modes: &mut Modes) {
     assert!(rt; modes.set(&others, Immediate).is_ok());
 }
 
+// A switch makes two constraints immediate; the third is deferred after it, and one is deferred in neither.
+fn two_are_made_immediate(rt: &impl Abort, initial: &Modes, switched: &Modes) {
+    let made = initial.made_immediate(switched).expect(rt, "memory");
+    assert!(rt; made.is_deferred(ConstraintId::new(5)));
+    assert!(rt; made.is_deferred(ConstraintId::new(9)));
+    assert!(rt; !made.is_deferred(ConstraintId::new(3)));
+    assert!(rt; !made.is_deferred(ConstraintId::new(0)));
+    drop(made);
+}
+
 // How often that was done over two new stores which was done least often.
 fn least_done(
     rt: &impl Abort,
@@ -377,6 +387,7 @@ fn least_done(
     let initial = Modes::initial(alloc, plain.catalogue().constraints()).expect(rt, "memory");
     let mut switched = initial.copy().expect(rt, "memory");
     switch(rt, &mut switched);
+    two_are_made_immediate(rt, &initial, &switched);
     same_after_each(
         rt,
         alloc,
